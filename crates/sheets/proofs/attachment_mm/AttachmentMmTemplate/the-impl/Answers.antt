@@ -1,0 +1,29 @@
+use native.Mathlib.Omega.{arith}
+use Rattle.std.proofs.shelf.Signed.{ints}
+use Rattle.sheets.specs.declared.figures.Figure.the-variants.{GrossPlant, AccumulatedDepreciation, TotalOm, TransmissionOm, LseExpenses, Account565, GeneralDepreciation, OtherTaxes, IncomeTaxes, ReturnOnRateBase}
+use Rattle.sheets.proofs.attachment_mm.AttachmentMmTemplate.the-impl.Needs as need
+
+pub small-law : need.small-law
+small-law f r =
+    let gross = r GrossPlant in
+    let accumulated = r AccumulatedDepreciation in
+    let om = r TotalOm in
+    let transmission = r TransmissionOm in
+    let lse = r LseExpenses in
+    let account = r Account565 in
+    let depreciation = r GeneralDepreciation in
+    let taxes = r OtherTaxes in
+    let income = r IncomeTaxes in
+    let on-base = r ReturnOnRateBase in
+    record {
+      om = record { adjusted = omega (arith, ints); base = omega arith };
+      expense = record { om = omega (arith, ints); depreciation = omega arith; taxes = omega arith; base = omega arith };
+      return = record { taxes = omega arith; return = omega arith; base = omega (arith, ints) };
+    }
+
+pub summed-law : need.summed-law
+summed-law f = record {
+  net-plant-and-depreciation-are-gross-plant = omega (arith, ints);
+  adjusted-om-and-deductions-are-transmission-om = omega (arith, ints);
+  other-om-and-adjusted-om-are-total-om = omega (arith, ints);
+}

@@ -1,0 +1,9 @@
+pub mod Refusals
+pub mod Outcomes
+pub mod Figures
+pub mod Elements
+pub mod Rules
+pub mod Attachments
+pub mod Factors
+pub mod Sheets
+pub mod Pricing
