@@ -1,10 +1,10 @@
 -- Products of integers: what `omega (arith, ints)` does not find, since it multiplies no fact by a variable.
 use Prim.Native.Nat.{ℕ, _+_, _*_, _≤_}
-use mathlib.Core.Path.{_≡_, refl, ap}
+use mathlib.Core.Path.{_≡_, refl, ap, _∙_}
 use native.Mathlib.Nat.{mul-le-mul-right}
 use native.Mathlib.Omega.{arith}
-use borrow.Author.Differences.{up, down, sum-is, product-is, le-out}
-use lib.IntN.{ℤ, pos, negsuc, natAbs, _+ℤ_, _*ℤ_}
+use borrow.Author.Differences.{up, down, sum-is, neg-is, product-is, le-out}
+use lib.IntN.{ℤ, pos, negsuc, negℤ, natAbs, _+ℤ_, _-ℤ_, _*ℤ_}
 use lib.Signed.{_≤ℤ_}
 use Rattle.std.proofs.shelf.Bits.{mul-le}
 use Rattle.std.proofs.shelf.Signed.{ints}
@@ -33,3 +33,11 @@ size-of-product (negsuc a) (negsuc b) = refl
 -- sizes within m and n have a product within m × n
 pub product-within : (a b : ℤ) (m n : ℕ) → natAbs a ≤ m → natAbs b ≤ n → natAbs (a *ℤ b) ≤ m * n
 product-within a b m n p q = omega (arith, size-of-product a b, mul-le (natAbs a) (natAbs b) m n p q)
+
+times-negative : (a b : ℤ) → negℤ a *ℤ b ≡ negℤ (a *ℤ b)
+times-negative a b =
+    let n = neg-is a in
+    omega (arith, ints, ap (λ n. n * up b) (n .0), ap (λ n. n * down b) (n .0), ap (λ n. n * up b) (n .1), ap (λ n. n * down b) (n .1))
+
+pub times-difference : (a b c : ℤ) → (b -ℤ c) *ℤ a ≡ b *ℤ a -ℤ c *ℤ a
+times-difference a b c = times-sum a b (negℤ c) ∙ ap (λ z. b *ℤ a +ℤ z) (times-negative c a)

@@ -1,3 +1,4 @@
 pub mod Entered
 pub mod Ranges
+pub mod Tariff
 pub mod Told

@@ -14,18 +14,18 @@ use Rattle.sheets.specs.Factors.{above-zero, bases-above-zero, factor-fits, fa
 use Rattle.sheets.specs.Outcomes.{within}
 use Rattle.sheets.specs.Pricing.{Project-fits, project-fits}
 
-above-told : (x : ℤ) → above-zero x ≡ true → pos 0 <ℤ x
+pub above-told : (x : ℤ) → above-zero x ≡ true → pos 0 <ℤ x
 above-told x h = grind (arith, ints)
 
 pub within-told : (low high x : ℤ) → within low high x ≡ true → (low ≤ℤ x) × (x ≤ℤ high)
 within-told low high x h = let p = and-parts (leZ low x) (leZ x high) h in (grind (arith, ints), grind (arith, ints))
 
--- gross plant and net plant are above 0
-pub bases-told : (e : Elements) → bases-above-zero e ≡ true → (pos 0 <ℤ e .expense .«gross_plant») × (pos 0 <ℤ e .returns .«net_plant»)
+-- every base is above 0
+pub bases-told : (e : Elements) → bases-above-zero e ≡ true → (om-base-above-zero (e .«transmission_om») ≡ true) × (pos 0 <ℤ e .expense .«gross_plant») × (pos 0 <ℤ e .returns .«net_plant»)
 bases-told e h =
     let p = and-parts (om-base-above-zero (e .«transmission_om»)) (above-zero (e .expense .«gross_plant») && above-zero (e .returns .«net_plant»)) h in
     let q = and-parts (above-zero (e .expense .«gross_plant»)) (above-zero (e .returns .«net_plant»)) (p .1) in
-    (above-told (e .expense .«gross_plant») (q .0), above-told (e .returns .«net_plant») (q .1))
+    (p .0, above-told (e .expense .«gross_plant») (q .0), above-told (e .returns .«net_plant») (q .1))
 
 factor-told : (x : ℤ) → factor-fits hundredths x ≡ true → natAbs x ≤ 100000
 factor-told x h = let p = within-told (negℤ (pos 100000)) (pos 100000) x h in omega (arith, ints)

@@ -138,8 +138,10 @@ cc-rules = record {
   om-base = λ j. pos 0;
 }
 
--- the template's own sums, read from the printed page
+-- the sums between the printed lines of Attachment MM: 2 + 1a = 1, 3d + 3b + 3c = 3a, and other O&M + 3d = 3
 pub record Mm-lines-add-up (f : Figures) (e : Elements) : Type 0 where
-  pub net-plant-and-depreciation-are-gross-plant : e .returns .«net_plant» +ℤ amount-of figure.AccumulatedDepreciation f ≡ amount-of figure.GrossPlant f
-  pub adjusted-om-and-deductions-are-transmission-om : mm-adjusted-om f +ℤ amount-of figure.LseExpenses f +ℤ amount-of figure.Account565 f ≡ amount-of figure.TransmissionOm f
-  pub other-om-and-adjusted-om-are-total-om : e .expense .«other_om» +ℤ mm-adjusted-om f ≡ amount-of figure.TotalOm f
+  pub line-3d : ℤ
+  pub line-4-divides-3d-by-1a : e .«transmission_om» ≡ Some (record { «adjusted_om» = line-3d; «accumulated_depreciation» = amount-of figure.AccumulatedDepreciation f })
+  pub net-plant-and-1a-are-line-1 : e .returns .«net_plant» +ℤ amount-of figure.AccumulatedDepreciation f ≡ amount-of figure.GrossPlant f
+  pub lines-3d-3b-and-3c-are-line-3a : line-3d +ℤ amount-of figure.LseExpenses f +ℤ amount-of figure.Account565 f ≡ amount-of figure.TransmissionOm f
+  pub other-om-and-3d-are-line-3 : e .expense .«other_om» +ℤ line-3d ≡ amount-of figure.TotalOm f

@@ -7,3 +7,4 @@ pub mod Attachments
 pub mod Factors
 pub mod Sheets
 pub mod Pricing
+pub mod Tariff

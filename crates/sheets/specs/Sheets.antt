@@ -60,7 +60,18 @@ worked scale t f = page-one scale (t .elements-of f) (t .adjusted-om-fits f)
 abbrev pub finished : {L : Type 0} → ℕ → Rules L → Figures → Result Factors Refusal
 finished scale t f = asked (ask (complete t f) LineMissing ∷ []) (worked scale t f)
 
--- the worked sheet's figures and factors, or the refusal with the open sheet's figures
-abbrev pub with-sheet : Figures → Result Factors Refusal → Result (Figures × Factors) (Refusal × Figures)
+-- what finishing gives: the worked sheet's figures and factors, or the refusal and the open sheet's figures
+abbrev pub Finish : Type 0
+Finish = Result (Figures × Factors) (Refusal × Figures)
+
+abbrev pub with-sheet : Figures → Result Factors Refusal → Finish
 with-sheet f (Ok p) = Ok (f, p)
 with-sheet f (Err why) = Err (why, f)
+
+abbrev pub finish-outcome : {L : Type 0} → ℕ → Rules L → Figures → Finish
+finish-outcome scale t f = with-sheet f (finished scale t f)
+
+-- the same of a call's answer, by what is read of a worked sheet and of a refusal
+abbrev pub seen : {W E : Type 0} → (W → Figures × Factors) → (E → Refusal × Figures) → Result W E → Finish
+seen of-worked of-refused (Ok w) = Ok (of-worked w)
+seen of-worked of-refused (Err e) = Err (of-refused e)

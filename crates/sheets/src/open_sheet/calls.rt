@@ -2,10 +2,10 @@ ghost use Prim.Native.Nat.{_≤_};
 ghost use mathlib.Core.Bool.{true};
 ghost use mathlib.Core.Path.{_≡_};
 ghost use Rattle.std.specs.Vec.{made};
-ghost use Rattle.std.specs.declared.result.Result.the-variants.{Ok, Err};
 ghost use Rattle.sheets.specs.Factors.{factors-fit, hundredths};
 ghost use Rattle.sheets.specs.Figures.{In-range, blank, figure-in};
-ghost use Rattle.sheets.specs.Sheets.{Gives, complete as isComplete, entered, entered-labelled, finished, with-sheet, worked};
+ghost use Rattle.sheets.specs.Tariff.{Page-one-follows};
+ghost use Rattle.sheets.specs.Sheets.{Gives, complete as isComplete, entered, entered-labelled, finish-outcome, seen, worked};
 use crate::factors::Factors;
 use crate::figures::Figure;
 use crate::figures::Figures;
@@ -79,9 +79,8 @@ impl<T: Template> OpenSheet<T> {
         self.figures.get(figure)
     }
 
-    /// Works out page 1 and uses the sheet up; a refusal gives the sheet back.
-    pub fn finish(self) -> Result<WorkedSheet<T>, (Refusal, OpenSheet<T>)>
-        ensures { λ r. ⌜ with-sheet (self .figures) (finished hundredths rules (self .figures)) ≡ elim r [ Ok w ↦ Ok (w .figures, w .factors) | Err e ↦ Err (e .0, e .1 .figures) ] ⌝ }
+    fn asked_page_one(self) -> Result<WorkedSheet<T>, (Refusal, OpenSheet<T>)>
+        ensures { λ r. ⌜ seen (λ w. (w .figures, w .factors)) (λ e. (e .0, e .1 .figures)) r ≡ finish-outcome hundredths rules (self .figures) ⌝ }
     {
         if !complete::<T>(&self.figures) {
             return Err((Refusal::LineMissing, self));
@@ -97,5 +96,14 @@ impl<T: Template> OpenSheet<T> {
             }
             Err(refusal) => Err((refusal, self)),
         }
+    }
+
+    /// Works out page 1 and uses the sheet up; a refusal gives the sheet back.
+    pub fn finish(self) -> Result<WorkedSheet<T>, (Refusal, OpenSheet<T>)>
+        ensures outcome { λ r. ⌜ seen (λ w. (w .figures, w .factors)) (λ e. (e .0, e .1 .figures)) r ≡ finish-outcome hundredths rules (self .figures) ⌝ }
+        ensures follows_the_tariff { λ r. ⌜ made r (λ w. Page-one-follows hundredths (rules .elements-of (self .figures)) (w .factors)) ⌝ }
+        ensures printed_sums_hold { λ _. ⌜ sums (self .figures) (rules .elements-of (self .figures)) ⌝ }
+    {
+        self.asked_page_one()
     }
 }

@@ -7,6 +7,8 @@ ghost use Rattle.std.specs.NonZero.{of-u64};
 ghost use Rattle.sheets.specs.Factors.{hundredths, om-factor-fits};
 ghost use Rattle.sheets.specs.Figures.{figure-in};
 ghost use Rattle.sheets.specs.Outcomes.{within as isWithin};
+ghost use Rattle.std.specs.Vec.{made};
+ghost use Rattle.sheets.specs.Tariff.{Page-two-follows};
 ghost use Rattle.sheets.specs.Pricing.{Project-fits, charge as chargeOf, columns-of, net-plant-of, om-charge, priced, project-fits};
 use crate::factors::Factors;
 use crate::figures::Figure;
@@ -155,8 +157,7 @@ impl<T: Template> WorkedSheet<T> {
         }
     }
 
-    /// Prices a project: its columns, or the first question that is answered no.
-    pub fn price(&self, project: Project) -> Result<Columns, Refusal>
+    fn asked_columns(&self, project: Project) -> Result<Columns, Refusal>
         ensures { λ r. ⌜ r ≡ priced hundredths (now (self .entry) .factors) (rules .om-base) project ⌝ }
     {
         if !project_fits(&project) {
@@ -167,6 +168,14 @@ impl<T: Template> WorkedSheet<T> {
             return Err(Refusal::RequirementOutOfRange);
         }
         Ok(columns)
+    }
+
+    /// Prices a project: its columns, or the first question that is answered no.
+    pub fn price(&self, project: Project) -> Result<Columns, Refusal>
+        ensures outcome { λ r. ⌜ r ≡ priced hundredths (now (self .entry) .factors) (rules .om-base) project ⌝ }
+        ensures follows_the_tariff { λ r. ⌜ made r (Page-two-follows hundredths (now (self .entry) .factors) (rules .om-base) project) ⌝ }
+    {
+        self.asked_columns(project)
     }
 
     /// A figure as it was entered.

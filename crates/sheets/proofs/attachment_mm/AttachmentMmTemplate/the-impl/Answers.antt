@@ -1,6 +1,8 @@
+use mathlib.Core.Path.{refl}
 use native.Mathlib.Omega.{arith}
 use Rattle.std.proofs.shelf.Signed.{ints}
 use Rattle.sheets.specs.declared.figures.Figure.the-variants.{GrossPlant, AccumulatedDepreciation, TotalOm, TransmissionOm, LseExpenses, Account565, GeneralDepreciation, OtherTaxes, IncomeTaxes, ReturnOnRateBase}
+use Rattle.sheets.specs.Attachments.{mm-adjusted-om}
 use Rattle.sheets.proofs.attachment_mm.AttachmentMmTemplate.the-impl.Needs as need
 
 pub small-law : need.small-law
@@ -23,7 +25,9 @@ small-law f r =
 
 pub summed-law : need.summed-law
 summed-law f = record {
-  net-plant-and-depreciation-are-gross-plant = omega (arith, ints);
-  adjusted-om-and-deductions-are-transmission-om = omega (arith, ints);
-  other-om-and-adjusted-om-are-total-om = omega (arith, ints);
+  line-3d = mm-adjusted-om f;
+  line-4-divides-3d-by-1a = refl;
+  net-plant-and-1a-are-line-1 = omega (arith, ints);
+  lines-3d-3b-and-3c-are-line-3a = omega (arith, ints);
+  other-om-and-3d-are-line-3 = omega (arith, ints);
 }

@@ -1,6 +1,9 @@
-use mathlib.Core.Path.{sym}
-use Rattle.sheets.proofs.Told.{project-told}
+use native.Mathlib.Omega.{arith}
+use Rattle.sheets.specs.Factors.{hundredths}
+use Rattle.sheets.proofs.Tariff.{priced-follows}
 use Rattle.sheets.proofs.worked_sheet.WorkedSheet.price.Needs as need
 
-pub columns-columns-requires : need.columns-columns-requires
-columns-columns-requires g c κs = project-told (c .args .project) (sym (c .if-not-project-fits .ensures tt))
+pub returns : need.returns
+returns g c =
+    let outcome = c .asked-columns .ensures in
+    record { outcome = outcome; follows-the-tariff = priced-follows hundredths (c .args .self .now .factors) (g .T·Template .rules .om-base) (c .args .project) _ (omega arith) outcome }
