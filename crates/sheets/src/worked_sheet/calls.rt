@@ -10,6 +10,7 @@ ghost use Rattle.sheets.specs.Outcomes.{within as isWithin};
 ghost use Rattle.std.specs.Vec.{made};
 ghost use Rattle.sheets.specs.Tariff.{Page-two-follows};
 ghost use Rattle.sheets.specs.Pricing.{Project-fits, charge as chargeOf, columns-of, net-plant-of, om-charge, priced, project-fits};
+use crate::elements::Elements;
 use crate::factors::Factors;
 use crate::figures::Figure;
 use crate::figures::LARGEST_AMOUNT;
@@ -183,6 +184,13 @@ impl<T: Template> WorkedSheet<T> {
         ensures { λ r. ⌜ r ≡ figure-in figure (now (self .entry) .figures) ⌝ }
     {
         self.figures.get(figure)
+    }
+
+    /// The cost elements of page 1, entered or worked out.
+    pub fn elements(&self) -> Elements
+        ensures { λ r. ⌜ r ≡ rules .elements-of (now (self .entry) .figures) ⌝ }
+    {
+        T::elements(&self.figures)
     }
 
     /// The factors of page 1.
