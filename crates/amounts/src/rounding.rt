@@ -38,3 +38,44 @@ pub fn rounded_down(n: i64, d: NonZeroU64) -> i64
 {
     quotient_below(n, d) as i64
 }
+
+#[cfg(test)]
+mod tests {
+    use super::*;
+    use std::test::*;
+
+    #[test]
+    fn halves_go_away_from_zero() -> Result<(), Fail> {
+        let two = NonZeroU64::new(2).unwrap();
+        check_eq(rounded(5, two), 3)?;
+        check_eq(rounded(-5, two), -3)?;
+        check_eq(rounded(1, two), 1)?;
+        check_eq(rounded(-1, two), -1)?;
+        check_eq(rounded(4, two), 2)
+    }
+
+    #[test]
+    fn other_quotients_go_to_the_nearest() -> Result<(), Fail> {
+        let three = NonZeroU64::new(3).unwrap();
+        check_eq(rounded(4, three), 1)?;
+        check_eq(rounded(-5, three), -2)
+    }
+
+    #[test]
+    fn rounding_down_goes_below() -> Result<(), Fail> {
+        let two = NonZeroU64::new(2).unwrap();
+        check_eq(rounded_down(5, two), 2)?;
+        check_eq(rounded_down(-5, two), -3)?;
+        check_eq(rounded_down(-4, two), -2)
+    }
+
+    #[test]
+    fn both_take_every_amount_and_divisor() -> Result<(), Fail> {
+        check_eq(rounded(i64::MIN, NonZeroU64::MIN), i64::MIN)?;
+        check_eq(rounded(i64::MAX, NonZeroU64::MIN), i64::MAX)?;
+        check_eq(rounded(i64::MIN, NonZeroU64::MAX), -1)?;
+        check_eq(rounded(i64::MAX, NonZeroU64::MAX), 0)?;
+        check_eq(rounded_down(i64::MIN, NonZeroU64::MIN), i64::MIN)?;
+        check_eq(rounded_down(i64::MIN, NonZeroU64::MAX), -1)
+    }
+}

@@ -2,8 +2,9 @@ ghost use Prim.Native.Nat.{_≤_};
 ghost use mathlib.Core.Bool.{true};
 ghost use mathlib.Core.Path.{_≡_};
 ghost use Rattle.std.specs.Vec.{made};
+ghost use Rattle.std.specs.declared.option.Option.the-variants.{Some};
 ghost use Rattle.sheets.specs.Factors.{factors-fit, hundredths};
-ghost use Rattle.sheets.specs.Figures.{In-range, blank, figure-in};
+ghost use Rattle.sheets.specs.Figures.{In-range, amount-fits, blank, figure-in, with-figure};
 ghost use Rattle.sheets.specs.Tariff.{Page-one-follows};
 ghost use Rattle.sheets.specs.Sheets.{Gives, complete as isComplete, entered, entered-labelled, finish-outcome, seen, worked};
 use crate::factors::Factors;
@@ -50,6 +51,13 @@ impl<T: Template> OpenSheet<T> {
         }
     }
 
+    fn set(&mut self, figure: Figure, amount: i64)
+        requires { ⌜ amount-fits figure amount ≡ true ⌝ }
+        ensures { λ _. ⌜ now (self .exit) .figures ≡ with-figure figure (Some amount) (now (self .entry) .figures) ⌝ }
+    {
+        self.figures.put(figure, Some(amount));
+    }
+
     /// Enters the amount of a line; a later entry replaces an earlier one.
     pub fn enter(&mut self, line: T::Line, amount: i64) -> Result<(), Refusal>
         ensures { λ r. ⌜ Gives (entered (rules .figure-of line) amount (now (self .entry) .figures)) r (now (self .exit) .figures) ⌝ }
@@ -58,7 +66,7 @@ impl<T: Template> OpenSheet<T> {
         if !figure.takes(amount) {
             return Err(Refusal::AmountOutOfRange);
         }
-        self.figures.put(figure, Some(amount));
+        self.set(figure, amount);
         Ok(())
     }
 

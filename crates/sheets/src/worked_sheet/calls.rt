@@ -98,10 +98,8 @@ fn return_charge(project: &Project, factor: i64) -> i64
     ensures value { λ r. ⌜ r ≡ chargeOf hundredths (net-plant-of (now (project .entry))) factor ⌝ }
     ensures bound { λ r. ⌜ natAbs r ≤ 100000000000 ⌝ }
 {
-    charge(
-        project.gross_plant - project.accumulated_depreciation,
-        factor,
-    )
+    let net_plant = project.gross_plant - project.accumulated_depreciation;
+    charge(net_plant, factor)
 }
 
 /// Column 9 of Attachment MM: both expenses.
