@@ -25,8 +25,15 @@ const MM_FIGURES: [i64; 10] = [
     42_000_000,
 ];
 
-const CC_FIGURES: [i64; 7] =
-    [1_865_000_000, 1_305_500_000, 52_989_310, 3_247_214, 12_975_857, 47_594_197, 100_209_722];
+const CC_FIGURES: [i64; 7] = [
+    1_865_000_000,
+    1_305_500_000,
+    52_989_310,
+    3_247_214,
+    12_975_857,
+    47_594_197,
+    100_209_722,
+];
 
 fn mm_sheet(amounts: [i64; 10]) -> Result<OpenSheet<AttachmentMm>, Refusal> {
     let mut sheet = OpenSheet::<AttachmentMm>::new();
@@ -67,7 +74,11 @@ fn price<T: Template>(
     accumulated_depreciation: i64,
     depreciation_expense: i64,
 ) -> Result<Columns, Refusal> {
-    sheet.price(Project { gross_plant, accumulated_depreciation, depreciation_expense })
+    sheet.price(Project {
+        gross_plant,
+        accumulated_depreciation,
+        depreciation_expense,
+    })
 }
 
 #[test]
@@ -126,4 +137,80 @@ fn entering_asks_21_and_then_22() -> Result<(), Fail> {
     check_eq(number(sheet.enter_labelled(b"10", -10_000_000_000)), 0)?;
     check_eq(number(sheet.enter_labelled(b"10", -10_000_000_001)), 22)?;
     check_eq(number(sheet.enter_labelled(b"12", -1)), 22)
+}
+
+/// The number of what finishing answers for these figures; 0 where it is accepted.
+fn finish_number(amounts: [i64; 10]) -> Result<u8, Refusal> {
+    Ok(number(finished(mm_sheet(amounts)?)))
+}
+
+/// The same, with another amount on one line.
+fn finish_number_with(place: usize, amount: i64) -> Result<u8, Refusal> {
+    let mut amounts = MM_FIGURES;
+    if place < 10 {
+        amounts[place] = amount;
+    }
+    finish_number(amounts)
+}
+
+#[test]
+fn finishing_asks_every_base_and_line_3d() -> Result<(), Fail> {
+    check_eq(finish_number_with(1, 0)?, 24)?;
+    check_eq(finish_number_with(1, 1)?, 26)?;
+    check_eq(finish_number_with(1, 1_000_000_000)?, 24)?;
+    check_eq(finish_number_with(0, 0)?, 24)?;
+    check_eq(finish_number_with(3, 1_999_999)?, 25)?;
+    check_eq(finish_number_with(3, 2_000_000)?, 0)?;
+    check_eq(finish_number_with(3, 32_000_000)?, 0)?;
+    check_eq(finish_number_with(3, 32_000_001)?, 25)
+}
+
+#[test]
+fn finishing_asks_the_factors_last() -> Result<(), Fail> {
+    check_eq(finish_number_with(9, 5_982_029_999)?, 0)?;
+    check_eq(finish_number_with(9, 5_982_030_000)?, 26)?;
+    let mut amounts = MM_FIGURES;
+    amounts[3] = 0;
+    amounts[9] = 10_000_000_000;
+    check_eq(finish_number(amounts)?, 25)?;
+    amounts[1] = 0;
+    check_eq(finish_number(amounts)?, 24)
+}
+
+#[test]
+fn a_refused_finish_gives_the_sheet_back() -> Result<(), Fail> {
+    let mut sheet = OpenSheet::<AttachmentCc>::new();
+    check_eq(number(sheet.enter_labelled(b"1", 7)), 0)?;
+    match sheet.finish() {
+        Ok(_) => Err(Fail::new("finished with one figure")),
+        Err(refused) => {
+            check_eq(refused.0.number(), 23)?;
+            check_eq(refused.1.figure(Figure::GrossPlant), Some(7))?;
+            check_eq(refused.1.figure(Figure::NetPlant), None)
+        }
+    }
+}
+
+#[test]
+fn pricing_asks_27_and_then_28() -> Result<(), Fail> {
+    let sheet = finished(mm_sheet(MM_FIGURES)?)?;
+    check_eq(number(price(&sheet, -1, 0, 0)), 27)?;
+    check_eq(number(price(&sheet, 10_000_000_001, 0, 0)), 27)?;
+    check_eq(number(price(&sheet, 5, 6, 0)), 27)?;
+    check_eq(number(price(&sheet, 5, -1, 0)), 27)?;
+    check_eq(number(price(&sheet, 5, 5, -1)), 27)?;
+    check_eq(number(price(&sheet, 0, 0, 10_000_000_001)), 27)?;
+    check_eq(number(price(&sheet, 10_000_000_000, 0, 10_000_000_000)), 28)?;
+    check_eq(number(price(&sheet, 0, 0, 0)), 0)?;
+    check_eq(number(price(&sheet, 0, 0, 100_000_000)), 0)?;
+    check_eq(number(price(&sheet, 0, 0, 100_000_001)), 28)
+}
+
+#[test]
+fn a_negative_requirement_is_28() -> Result<(), Fail> {
+    let mut amounts = MM_FIGURES;
+    amounts[8] = -102_000_000;
+    let sheet = finished(mm_sheet(amounts)?)?;
+    check_eq(number(price(&sheet, 20_000_000, 0, 1_299_999)), 28)?;
+    check_eq(number(price(&sheet, 20_000_000, 0, 1_300_000)), 0)
 }

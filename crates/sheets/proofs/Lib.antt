@@ -1,4 +1,5 @@
 pub mod Entered
 pub mod Ranges
+pub mod Reach
 pub mod Tariff
 pub mod Told

@@ -2,7 +2,7 @@
 use Prim.Native.Nat.{ℕ, _+_, _*_, _≤_, _<_}
 use lib.IntN.{ℤ, pos, natAbs, _+ℤ_, _-ℤ_, _*ℤ_}
 use lib.Signed.{_<ℤ_}
-use mathlib.Core.Bool.{Bool, true, false, cond}
+use mathlib.Core.Bool.{Bool, true}
 use mathlib.Core.List.{List, [], _∷_, map}
 use mathlib.Core.Path.{_≡_, refl, sym, ap, subst, _∙_}
 use native.Mathlib.Nat.{eq-of-mul-eq-mul-right, le-of-mul-le-mul-right, mul-le-mul-right}
@@ -34,7 +34,7 @@ use Rattle.sheets.specs.Pricing.{columns-of, net-plant-of, om-charge, priced, 
 use Rattle.sheets.specs.Rules.{Rules}
 use Rattle.sheets.specs.Sheets.{complete, finish-outcome, finished, seen, with-sheet}
 use Rattle.sheets.specs.Tariff.{Expense-follows, Nearest-parts, Om-charge-follows, Om-follows, Page-one-follows, Page-two-follows, Quotient, Return-follows, exact-sum, single}
-use Rattle.sheets.proofs.Told.{above-told, bases-told}
+use Rattle.sheets.proofs.Told.{above-told, bases-told, past}
 
 abbrev total : List ℤ → ℤ
 total [] = pos 0
@@ -138,11 +138,6 @@ factors-follow scale e h =
       expense = expense-follows scale (e .expense) (told .1);
       return = return-follows scale (e .returns) (told .2);
     }
-
--- what holds of the answer where the questions hold, holds of every answer that was given
-past : {A : Type 0} (P : A → Type 0) (b : Bool) (why : Refusal) (r : Result A Refusal) → (b ≡ true → made r P) → made (cond b r (Err why)) P
-past P true why r h = h refl
-past P false why r h = tt
 
 -- an accepted page 1 follows the tariff
 finished-follows : {L : Type 0} (scale : ℕ) (t : Rules L) (f : Figures) → made (finished scale t f) (Page-one-follows scale (t .elements-of f))

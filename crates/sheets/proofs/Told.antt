@@ -2,17 +2,26 @@
 use Prim.Native.Nat.{ℕ, _*_, _≤_}
 use lib.IntN.{ℤ, pos, negℤ, natAbs}
 use lib.Signed.{leZ, _≤ℤ_, _<ℤ_}
-use mathlib.Core.Bool.{true, _&&_}
-use mathlib.Core.Path.{_≡_}
+use mathlib.Core.Bool.{Bool, true, false, cond, _&&_}
+use mathlib.Core.Path.{_≡_, refl}
 use native.Mathlib.Omega.{arith}
 use Rattle.std.proofs.shelf.Signed.{ints}
 use Rattle.std.proofs.shelf.Tests.{and-parts}
+use Rattle.std.specs.Vec.{made}
+use Rattle.std.specs.declared.result.Result.{Result}
+use Rattle.std.specs.declared.result.Result.the-variants.{Err}
 use Rattle.sheets.specs.declared.elements.Elements.{Elements}
 use Rattle.sheets.specs.declared.factors.Factors.{Factors}
 use Rattle.sheets.specs.declared.pricing.Project.{Project}
+use Rattle.sheets.specs.declared.refusal.Refusal.{Refusal}
 use Rattle.sheets.specs.Factors.{above-zero, bases-above-zero, factor-fits, factors-fit, hundredths, om-base-above-zero, om-factor-fits}
 use Rattle.sheets.specs.Outcomes.{within}
 use Rattle.sheets.specs.Pricing.{Project-fits, project-fits}
+
+-- what holds of the answer where the questions hold, holds of every answer that was given
+pub past : {A : Type 0} (P : A → Type 0) (b : Bool) (why : Refusal) (r : Result A Refusal) → (b ≡ true → made r P) → made (cond b r (Err why)) P
+past P true why r h = h refl
+past P false why r h = tt
 
 pub above-told : (x : ℤ) → above-zero x ≡ true → pos 0 <ℤ x
 above-told x h = grind (arith, ints)

@@ -1,6 +1,6 @@
 -- The columns of a project on page 2.
-use Prim.Native.Nat.{ℕ}
-use lib.IntN.{ℤ, pos, _+ℤ_, _-ℤ_, _*ℤ_}
+use Prim.Native.Nat.{ℕ, _≤_}
+use lib.IntN.{ℤ, pos, natAbs, _+ℤ_, _-ℤ_, _*ℤ_}
 use lib.Signed.{_≤ℤ_}
 use mathlib.Core.Bool.{Bool, _&&_}
 use mathlib.Core.List.{List, [], _∷_}
@@ -65,3 +65,12 @@ priced scale p om-base j =
     ∷ ask (within (pos 0) (pos 100000000) (columns-of scale p om-base j .«annual_revenue_requirement»)) RequirementOutOfRange
     ∷ [])
     (Ok (columns-of scale p om-base j))
+
+-- how far the columns of a priced project can reach
+pub record Columns-in-range (c : Columns) : Type 0 where
+  pub expense-charge : natAbs (c .«annual_expense_charge») ≤ 120000000000
+  pub return-charge : natAbs (c .«annual_return_charge») ≤ 100000000000
+  pub depreciation-from-zero : pos 0 ≤ℤ c .«depreciation_expense»
+  pub depreciation-to-limit : c .«depreciation_expense» ≤ℤ pos 10000000000
+  pub requirement-from-zero : pos 0 ≤ℤ c .«annual_revenue_requirement»
+  pub requirement-to-limit : c .«annual_revenue_requirement» ≤ℤ pos 100000000

@@ -9,7 +9,7 @@ ghost use Rattle.sheets.specs.Figures.{figure-in};
 ghost use Rattle.sheets.specs.Outcomes.{within as isWithin};
 ghost use Rattle.std.specs.Vec.{made};
 ghost use Rattle.sheets.specs.Tariff.{Page-two-follows};
-ghost use Rattle.sheets.specs.Pricing.{Project-fits, charge as chargeOf, columns-of, net-plant-of, om-charge, priced, project-fits};
+ghost use Rattle.sheets.specs.Pricing.{Columns-in-range, Project-fits, charge as chargeOf, columns-of, net-plant-of, om-charge, priced, project-fits};
 use crate::elements::Elements;
 use crate::factors::Factors;
 use crate::figures::Figure;
@@ -173,6 +173,7 @@ impl<T: Template> WorkedSheet<T> {
     pub fn price(&self, project: Project) -> Result<Columns, Refusal>
         ensures outcome { λ r. ⌜ r ≡ priced hundredths (now (self .entry) .factors) (rules .om-base) project ⌝ }
         ensures follows_the_tariff { λ r. ⌜ made r (Page-two-follows hundredths (now (self .entry) .factors) (rules .om-base) project) ⌝ }
+        ensures columns_in_range { λ r. ⌜ made r Columns-in-range ⌝ }
     {
         self.asked_columns(project)
     }
