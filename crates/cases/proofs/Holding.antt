@@ -1,5 +1,5 @@
 -- A rate is held for 24 months and no longer.
-use Prim.Native.Nat.{ℕ, _≤_, _<_}
+use Prim.Native.Nat.{ℕ, _<_}
 use mathlib.Core.Bool.{true}
 use mathlib.Core.Path.{_≡_, refl}
 use native.Mathlib.Omega.{arith}
@@ -22,9 +22,9 @@ pub none-in-january-2015 : (rates : Rates) (rate : ℕ) → Last-rate rates (dec
 none-in-january-2015 rates rate h =
     none (held rates (january 2015))
     (λ has.
-      let found = holds rates .rate-only-where-one-of-25-months-has-one (january 2015) has in
-      let after : december 2012 < found .0 = omega arith in
-      let missing = h .1 (found .0) after in
-      let there = found .1 .1 in
-      let z : _≡_ {A = ℕ} 0 1 = cc in
-      omega arith)
+    let found = holds rates .rate-only-where-one-of-25-months-has-one (january 2015) has in
+    let after : december 2012 < found .0 = omega arith in
+    let missing = h .1 (found .0) after in
+    let there = found .1 .1 in
+    let z : _≡_ {A = ℕ} 0 1 = cc in
+    omega arith)

@@ -1,5 +1,5 @@
 -- How far the columns of a priced project reach.
-use Prim.Native.Nat.{ℕ, _*_, _≤_}
+use Prim.Native.Nat.{_*_, _≤_}
 use lib.IntN.{ℤ, pos, natAbs, _*ℤ_}
 use mathlib.Core.Bool.{true}
 use mathlib.Core.Path.{_≡_, sym, subst}

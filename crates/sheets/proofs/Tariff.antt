@@ -2,7 +2,7 @@
 use Prim.Native.Nat.{ℕ, _+_, _*_, _≤_, _<_}
 use lib.IntN.{ℤ, pos, natAbs, _+ℤ_, _-ℤ_, _*ℤ_}
 use lib.Signed.{_<ℤ_}
-use mathlib.Core.Bool.{Bool, true}
+use mathlib.Core.Bool.{true}
 use mathlib.Core.List.{List, [], _∷_, map}
 use mathlib.Core.Path.{_≡_, refl, sym, ap, subst, _∙_}
 use native.Mathlib.Nat.{eq-of-mul-eq-mul-right, le-of-mul-le-mul-right, mul-le-mul-right}
@@ -33,7 +33,7 @@ use Rattle.sheets.specs.Outcomes.{within}
 use Rattle.sheets.specs.Pricing.{columns-of, net-plant-of, om-charge, priced, project-fits}
 use Rattle.sheets.specs.Rules.{Rules}
 use Rattle.sheets.specs.Sheets.{complete, finish-outcome, finished, seen, with-sheet}
-use Rattle.sheets.specs.Tariff.{Expense-follows, Nearest-parts, Om-charge-follows, Om-follows, Page-one-follows, Page-two-follows, Quotient, Return-follows, exact-sum, single}
+use Rattle.sheets.specs.Tariff.{Expense-follows, Nearest-parts, Om-charge-follows, Om-follows, Page-one-follows, Page-two-follows, Return-follows, exact-sum, single}
 use Rattle.sheets.proofs.Told.{above-told, bases-told, past}
 
 abbrev total : List ℤ → ℤ

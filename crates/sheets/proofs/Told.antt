@@ -1,5 +1,5 @@
 -- What the questions tell once they are answered yes.
-use Prim.Native.Nat.{ℕ, _*_, _≤_}
+use Prim.Native.Nat.{_≤_}
 use lib.IntN.{ℤ, pos, negℤ, natAbs}
 use lib.Signed.{leZ, _≤ℤ_, _<ℤ_}
 use mathlib.Core.Bool.{Bool, true, false, cond, _&&_}

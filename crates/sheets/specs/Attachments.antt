@@ -2,10 +2,9 @@
 use Prim.Native.Nat.{ℕ}
 use lib.Chars.{codes}
 use lib.IntN.{ℤ, pos, _+ℤ_, _-ℤ_}
-use mathlib.Core.Bool.{Bool, true}
+use mathlib.Core.Bool.{true}
 use mathlib.Core.List.{List, [], _∷_}
 use mathlib.Core.Path.{_≡_}
-use Rattle.std.specs.declared.option.Option.{Option}
 use Rattle.std.specs.declared.option.Option.the-variants.{Some, None}
 use Rattle.sheets.specs.declared.attachment_cc.CcLine.{CcLine}
 use Rattle.sheets.specs.declared.attachment_cc.CcLine.the-variants as cc

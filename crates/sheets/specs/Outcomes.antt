@@ -3,10 +3,8 @@ use lib.IntN.{ℤ}
 use lib.Signed.{leZ}
 use mathlib.Core.Bool.{Bool, cond, _&&_}
 use mathlib.Core.List.{List, [], _∷_}
-use mathlib.Core.Path.{_≡_}
 use Rattle.std.specs.declared.result.Result.{Result}
-use Rattle.std.specs.declared.result.Result.the-variants.{Ok, Err}
-use Rattle.sheets.specs.declared.figures.Figures.{Figures}
+use Rattle.std.specs.declared.result.Result.the-variants.{Err}
 use Rattle.sheets.specs.declared.refusal.Refusal.{Refusal}
 
 -- a question, with the refusal where its answer is no

@@ -1,6 +1,5 @@
 ghost use Prim.Native.Nat.{_≤_};
-ghost use lib.IntN.{pos, natAbs, _+ℤ_, _*ℤ_};
-ghost use lib.Signed.{_≤ℤ_};
+ghost use lib.IntN.{natAbs, _+ℤ_, _*ℤ_};
 ghost use mathlib.Core.Bool.{true};
 ghost use mathlib.Core.Path.{_≡_};
 ghost use Rattle.std.specs.NonZero.{of-u64};
@@ -44,7 +43,7 @@ fn project_fits(project: &Project) -> bool
 fn scale() -> NonZeroU64
     ensures { λ r. ⌜ of-u64 r ≡ hundredths ⌝ }
 {
-    NonZeroU64::new(10_000).unwrap()
+    NonZeroU64::new(SCALE as u64).unwrap()
 }
 
 fn product(amount: i64, factor: i64) -> i64

@@ -1,8 +1,5 @@
-use lib.IntN.{natAbs, _*ℤ_}
+use lib.IntN.{_*ℤ_}
 use mathlib.Core.Path.{_≡_}
-use mir.Syntax.{w64}
-use mir.Val.{SFits}
-use borrow.Author.Needs.{needs}
 use native.Mathlib.Omega.{arith}
 use Rattle.amounts.proofs.Laws.{rounded-within}
 use Rattle.amounts.proofs.Products.{product-within}
