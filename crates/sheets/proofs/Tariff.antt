@@ -109,9 +109,9 @@ expense-follows scale e p =
     let parts = e .«other_om» ∷ e .«general_depreciation» ∷ e .«other_taxes» ∷ [] in
     let adds : total parts ≡ total-expense e = omega (arith, ints) in
     record {
-      other-om = single-follows scale base (e .«other_om») p;
-      general-depreciation = single-follows scale base (e .«general_depreciation») p;
-      other-taxes = single-follows scale base (e .«other_taxes») p;
+      other-om-is-nearest-to-its-quotient = single-follows scale base (e .«other_om») p;
+      general-depreciation-is-nearest-to-its-quotient = single-follows scale base (e .«general_depreciation») p;
+      other-taxes-are-nearest-to-their-quotient = single-follows scale base (e .«other_taxes») p;
       line-9-is-nearest-to-the-exact-sum = subst (λ z. Nearest-parts scale (exact-sum (map (single base) parts)) (factor scale z base)) adds (sum-follows scale base parts p);
     }
 
@@ -121,8 +121,8 @@ return-follows scale e p =
     let parts = e .«income_taxes» ∷ e .«return_on_rate_base» ∷ [] in
     let adds : total parts ≡ total-return e = omega (arith, ints) in
     record {
-      income-taxes = single-follows scale base (e .«income_taxes») p;
-      return-on-rate-base = single-follows scale base (e .«return_on_rate_base») p;
+      income-taxes-are-nearest-to-their-quotient = single-follows scale base (e .«income_taxes») p;
+      return-on-rate-base-is-nearest-to-its-quotient = single-follows scale base (e .«return_on_rate_base») p;
       line-14-is-nearest-to-the-exact-sum = subst (λ z. Nearest-parts scale (exact-sum (map (single base) parts)) (factor scale z base)) adds (sum-follows scale base parts p);
     }
 
@@ -134,7 +134,7 @@ factors-follow : (scale : ℕ) (e : Elements) → bases-above-zero e ≡ true �
 factors-follow scale e h =
     let told = bases-told e h in
     record {
-      line-4 = om-follows scale (e .«transmission_om») (told .0);
+      line-4-is-nearest-to-its-quotient = om-follows scale (e .«transmission_om») (told .0);
       expense = expense-follows scale (e .expense) (told .1);
       return = return-follows scale (e .returns) (told .2);
     }

@@ -45,19 +45,19 @@ Om-follows scale None None = Unit {0}
 
 -- each single factor is nearest to its own quotient, and line 9 to the exact sum of the three
 pub record Expense-follows (scale : ℕ) (e : ExpenseElements) (p : ExpenseFactors) : Type 0 where
-  pub other-om : Nearest-parts scale (single (e .«gross_plant») (e .«other_om»)) (p .«other_om»)
-  pub general-depreciation : Nearest-parts scale (single (e .«gross_plant») (e .«general_depreciation»)) (p .«general_depreciation»)
-  pub other-taxes : Nearest-parts scale (single (e .«gross_plant») (e .«other_taxes»)) (p .«other_taxes»)
+  pub other-om-is-nearest-to-its-quotient : Nearest-parts scale (single (e .«gross_plant») (e .«other_om»)) (p .«other_om»)
+  pub general-depreciation-is-nearest-to-its-quotient : Nearest-parts scale (single (e .«gross_plant») (e .«general_depreciation»)) (p .«general_depreciation»)
+  pub other-taxes-are-nearest-to-their-quotient : Nearest-parts scale (single (e .«gross_plant») (e .«other_taxes»)) (p .«other_taxes»)
   pub line-9-is-nearest-to-the-exact-sum : Nearest-parts scale (exact-sum (map (single (e .«gross_plant»)) (e .«other_om» ∷ e .«general_depreciation» ∷ e .«other_taxes» ∷ []))) (p .total)
 
 -- the same for lines 11, 13 and 14
 pub record Return-follows (scale : ℕ) (e : ReturnElements) (p : ReturnFactors) : Type 0 where
-  pub income-taxes : Nearest-parts scale (single (e .«net_plant») (e .«income_taxes»)) (p .«income_taxes»)
-  pub return-on-rate-base : Nearest-parts scale (single (e .«net_plant») (e .«return_on_rate_base»)) (p .«return_on_rate_base»)
+  pub income-taxes-are-nearest-to-their-quotient : Nearest-parts scale (single (e .«net_plant») (e .«income_taxes»)) (p .«income_taxes»)
+  pub return-on-rate-base-is-nearest-to-its-quotient : Nearest-parts scale (single (e .«net_plant») (e .«return_on_rate_base»)) (p .«return_on_rate_base»)
   pub line-14-is-nearest-to-the-exact-sum : Nearest-parts scale (exact-sum (map (single (e .«net_plant»)) (e .«income_taxes» ∷ e .«return_on_rate_base» ∷ []))) (p .total)
 
 pub record Page-one-follows (scale : ℕ) (e : Elements) (p : Factors) : Type 0 where
-  pub line-4 : Om-follows scale (e .«transmission_om») (p .«transmission_om»)
+  pub line-4-is-nearest-to-its-quotient : Om-follows scale (e .«transmission_om») (p .«transmission_om»)
   pub expense : Expense-follows scale (e .expense) (p .expense)
   pub return : Return-follows scale (e .returns) (p .returns)
 
