@@ -29,7 +29,7 @@ fn print_pages<T: Template>(
     rt: &LibcRuntime,
     layout: &Layout,
     sheet: &WorkedSheet<T>,
-    projects: &[(u32, Project)],
+    projects: &[(i64, Project)],
 ) -> io::Result<()> {
     let rows = price_all(rt, sheet, projects)?;
     println!(rt)?;

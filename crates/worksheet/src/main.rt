@@ -1,4 +1,5 @@
 mod example;
+mod filed;
 mod layout;
 mod pages;
 mod task;
@@ -16,6 +17,10 @@ fn show_usage(rt: &LibcRuntime) -> io::Result<()> {
     println!(rt)?;
     println!(
         rt,
+        "  worksheet < FILING     prints both pages of a filing, or why it is refused"
+    )?;
+    println!(
+        rt,
         "  worksheet --example    works a built-in task and prints both pages"
     )
 }
@@ -24,7 +29,8 @@ fn main(rt: LibcRuntime) -> io::Result<()> {
     let mut args = env::args(&rt)?;
     let _ = args.next();
     match args.next() {
+        None => filed::show_filing(&rt),
         Some(word) if word.as_str() == "--example" => example::show_example(&rt),
-        _ => show_usage(&rt),
+        Some(_) => show_usage(&rt),
     }
 }

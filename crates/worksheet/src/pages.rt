@@ -20,7 +20,7 @@ use std::io;
 /// A project with its columns.
 #[derive(Clone, Copy)]
 pub struct Row {
-    pub number: u32,
+    pub number: i64,
     pub project: Project,
     pub columns: Columns,
 }

@@ -91,7 +91,7 @@ fn print_factors<T: Template>(rt: &LibcRuntime, sheet: &WorkedSheet<T>) -> io::R
 pub fn price_all<T: Template>(
     rt: &LibcRuntime,
     sheet: &WorkedSheet<T>,
-    projects: &[(u32, Project)],
+    projects: &[(i64, Project)],
 ) -> io::Result<Vec<Row>> {
     let mut rows = Vec::new(rt.alloc());
     for (number, project) in projects {

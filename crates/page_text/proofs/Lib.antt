@@ -1,0 +1,6 @@
+mod Adding
+mod Bounds
+mod Columns
+mod InUse
+mod Placing
+mod Reading
