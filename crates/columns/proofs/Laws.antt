@@ -22,7 +22,7 @@ use Rattle.columns.proofs.Spelling.{not-a-number, number-spelled, spelled-is-t
 use Rattle.columns.proofs.Widths.{refused-where-too-wide, written-where-it-fits}
 
 -- what stands before the text are spaces
-spaces-before : (f : List ℕ) → (spaces : ℕ) × (f ≡ replicate spaces 32 ++ after-spaces f)
+pub spaces-before : (f : List ℕ) → (spaces : ℕ) × (f ≡ replicate spaces 32 ++ after-spaces f)
 unfolding after-spaces
 spaces-before [] = (0, refl)
 spaces-before (b ∷ bs) =

@@ -6,6 +6,7 @@ mod refusal;
 mod tests;
 mod writing;
 
+pub use reading::after_spaces;
 pub use reading::read_number;
 pub use refusal::Refusal;
 pub use refusal::RefusalDebug;

@@ -5,7 +5,7 @@ use crate::refusal::Refusal;
 use std::str;
 
 /// What follows the spaces that a field begins with.
-fn after_spaces(field: &[u8]) -> &[u8]
+pub fn after_spaces(field: &[u8]) -> &[u8]
     ensures { λ r. ⌜ now r ≡ after-spaces (now (field .entry)) ⌝ }
 {
     for (at, byte) in field.iter().enumerate() {

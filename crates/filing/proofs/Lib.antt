@@ -1,5 +1,4 @@
 pub mod Lines
 pub mod Records
 pub mod Rows
-pub mod Spaces
 pub mod Stages

@@ -1,5 +1,5 @@
 -- The lines of a filing, as a reader takes them from the bytes.
-use Prim.Native.Nat.{ℕ, zero, suc, _-_, _+_, _/_, _≤_, _<_}
+use Prim.Native.Nat.{ℕ, zero, suc, _-_, _≤_, _<_}
 use lib.Dec.{eqb}
 use lib.ListN.{length, take, drop, getD}
 use mathlib.Core.Bool.{Bool, true, false, _&&_, not}
@@ -10,7 +10,7 @@ use native.Mathlib.Omega.{arith}
 use Rattle.std.specs.Orderings.{Decides}
 use Rattle.std.specs.Places.{Some-of}
 use Rattle.std.proofs.shelf.Elements.{has-from-contains}
-use Rattle.std.proofs.shelf.Lists.{getD-default, getD-past, getD-take, length-drop, length-take, take-take}
+use Rattle.std.proofs.shelf.Lists.{getD-default, getD-past, getD-take, length-drop, take-take}
 use Rattle.std.proofs.shelf.Tests.{and-from, and-left, and-parts, and-right, both-ways, cases-bool, cases-lt, eq-eqb, eqb-true, ne-eqb, not-from-false, not-from-true}
 use Rattle.filing.specs.Lines.{cut, line-count, lines-of, whole, without}
 

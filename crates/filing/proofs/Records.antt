@@ -4,14 +4,14 @@ use lib.Chars.{codes}
 use lib.Dec.{eqb}
 use lib.IntN.{ℤ}
 use lib.ListN.{length, replicate, getD, take, drop}
-use mathlib.Core.Bool.{Bool, true, false, cond, _&&_}
-use mathlib.Core.List.{List, [], _∷_, _++_, map, append-assoc}
+use mathlib.Core.Bool.{Bool, true, false, cond}
+use mathlib.Core.List.{List, [], _∷_, _++_, map}
 use mathlib.Core.Logic.{_⊎_, inl, inr, ⊎-elim}
-use mathlib.Core.Path.{_≡_, refl, sym, ap, subst, _∙_}
+use mathlib.Core.Path.{_≡_, refl, sym, ap, _∙_}
 use native.Mathlib.Omega.{arith}
 use Rattle.std.proofs.shelf.Equals.{sameBytes-decides}
-use Rattle.std.proofs.shelf.Lists.{append-nil, drop-all, drop-drop, getD-take, length-append, length-drop, length-replicate, length-take, length-take-le, nil-from-length, take-append-drop, take-more, take-take}
-use Rattle.std.proofs.shelf.Tests.{and-parts, cases-bool, cond-false, cond-true, eqb-true}
+use Rattle.std.proofs.shelf.Lists.{append-nil, drop-all, drop-drop, getD-take, length-append, length-drop, length-replicate, length-take-le, nil-from-length, take-append-drop, take-more, take-take}
+use Rattle.std.proofs.shelf.Tests.{and-parts, eqb-true}
 use Rattle.std.specs.Vec.{made}
 use Rattle.std.specs.declared.result.Result.{Result}
 use Rattle.std.specs.declared.result.Result.the-variants.{Ok, Err}
@@ -23,7 +23,6 @@ use Rattle.columns.specs.declared.refusal.Refusal.{Refusal as NumberRefusal}
 use Rattle.sheets.specs.Attachments.{cc-rules, mm-rules}
 use Rattle.sheets.specs.Figures.{blank as no-figures}
 use Rattle.sheets.specs.Rules.{Rules}
-use Rattle.sheets.specs.declared.figures.Figures.{Figures}
 use Rattle.filing.specs.declared.fields.FiledProject.{FiledProject}
 use Rattle.filing.specs.declared.refusal.LineRefusal.{LineRefusal}
 use Rattle.filing.specs.declared.refusal.Refusal.{Refusal}
@@ -35,7 +34,7 @@ use Rattle.filing.specs.Lines.{at-line, cut, line-count, lines-of, short-enoug
 use Rattle.filing.specs.Outcomes.{then, unless}
 use Rattle.filing.specs.Records.{FilingRecord, Records-and-bytes-determine-each-other, all-written, f-record, fields-of, letter-of, line-of, number-field, p-record, record-by, record-on, t-record, template-on, text-field}
 use Rattle.filing.proofs.Lines.{whole-is-long}
-use Rattle.filing.proofs.Spaces.{spaces-before}
+use Rattle.columns.proofs.Laws.{spaces-before}
 
 -- an answer after questions: each was answered
 then-ok : {E X Y : Type 0} (r : Result X E) (next : X → Result Y E) (y : Y) → then r next ≡ Ok y → (x : X) × (r ≡ Ok x) × (next x ≡ Ok y)

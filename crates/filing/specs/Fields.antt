@@ -10,7 +10,6 @@ use Rattle.std.specs.declared.result.Result.{Result}
 use Rattle.std.specs.declared.result.Result.the-variants.{Ok, Err}
 use Rattle.columns.specs.Fields.{after-spaces, reading}
 use Rattle.columns.specs.declared.refusal.Refusal.{Refusal as NumberRefusal}
-use Rattle.sheets.specs.declared.pricing.Project.{Project}
 use Rattle.filing.specs.declared.fields.FiledFigure.{FiledFigure}
 use Rattle.filing.specs.declared.fields.FiledProject.{FiledProject}
 use Rattle.filing.specs.declared.refusal.Refusal.{Refusal}

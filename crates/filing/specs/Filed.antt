@@ -12,10 +12,9 @@ use Rattle.sheets.specs.Factors.{hundredths}
 use Rattle.sheets.specs.Outcomes.{within}
 use Rattle.sheets.specs.Pricing.{priced}
 use Rattle.sheets.specs.Rules.{Rules}
-use Rattle.sheets.specs.Sheets.{Entry, entered-labelled, finished}
+use Rattle.sheets.specs.Sheets.{entered-labelled, finished}
 use Rattle.sheets.specs.declared.factors.Factors.{Factors}
 use Rattle.sheets.specs.declared.figures.Figures.{Figures}
-use Rattle.sheets.specs.declared.pricing.Columns.{Columns}
 use Rattle.sheets.specs.declared.refusal.Refusal.{Refusal as SheetRefusal}
 use Rattle.filing.specs.declared.fields.FiledProject.{FiledProject}
 use Rattle.filing.specs.declared.refusal.LineRefusal.{LineRefusal}

@@ -6,7 +6,7 @@ use lib.ListN.{getD, take}
 use mathlib.Core.Bool.{cond}
 use mathlib.Core.List.{List, [], _∷_}
 use Rattle.std.specs.declared.result.Result.{Result}
-use Rattle.std.specs.declared.result.Result.the-variants.{Ok, Err}
+use Rattle.std.specs.declared.result.Result.the-variants.{Err}
 use Rattle.std.specs.shelf.Text.{sameBytes}
 use Rattle.sheets.specs.Attachments.{cc-rules, mm-rules}
 use Rattle.sheets.specs.Figures.{blank as no-figures}

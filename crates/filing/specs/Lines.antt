@@ -2,8 +2,8 @@
 use Prim.Native.Nat.{ℕ, zero, suc, _+_, _/_}
 use lib.Dec.{eqb, leb}
 use lib.ListN.{length, getD, take, drop}
-use mathlib.Core.Bool.{Bool, true, false, cond, _&&_, not}
-use mathlib.Core.List.{List, [], _∷_, _++_}
+use mathlib.Core.Bool.{Bool, true, false, _&&_, not}
+use mathlib.Core.List.{List, [], _∷_}
 use mathlib.Core.Path.{_≡_}
 use Rattle.std.specs.declared.option.Option.{Option}
 use Rattle.std.specs.declared.option.Option.the-variants.{Some, None}
@@ -13,7 +13,7 @@ use Rattle.filing.specs.declared.reader.FilingReader.{FilingReader}
 use Rattle.filing.specs.declared.reader.Record.{Record}
 use Rattle.filing.specs.declared.refusal.LineRefusal.{LineRefusal}
 use Rattle.filing.specs.declared.refusal.Refusal.{Refusal}
-use Rattle.filing.specs.declared.refusal.Refusal.the-variants.{FileTooLong, NotALine}
+use Rattle.filing.specs.declared.refusal.Refusal.the-variants.{NotALine}
 
 -- no byte is b
 abbrev pub without : ℕ → List ℕ → Bool

@@ -1,5 +1,5 @@
 -- F lines read up to the first P line.
-use Prim.Native.Nat.{ℕ, _+_}
+use Prim.Native.Nat.{_+_}
 use lib.ListN.{length}
 use mathlib.Core.Path.{_≡_}
 use Rattle.std.specs.declared.result.Result.{Result}
@@ -9,7 +9,6 @@ use Rattle.sheets.specs.declared.figures.Figures.{Figures}
 use Rattle.filing.specs.declared.reader.FilingReader.{FilingReader}
 use Rattle.filing.specs.declared.reader.Record.{Record}
 use Rattle.filing.specs.declared.refusal.LineRefusal.{LineRefusal}
-use Rattle.filing.specs.declared.refusal.Refusal.{Refusal}
 use Rattle.filing.specs.Filed.{Filed, Stage, at, entering, from, project-taken}
 use Rattle.filing.specs.Lines.{unread}
 use Rattle.filing.specs.Outcomes.{then}

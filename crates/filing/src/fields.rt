@@ -2,9 +2,9 @@ ghost use Prim.Native.Nat.{_≤_};
 ghost use lib.ListN.{length};
 ghost use mathlib.Core.Path.{_≡_};
 ghost use Rattle.std.specs.declared.result.Result.the-variants.{Err, Ok};
-ghost use Rattle.columns.specs.Fields.{after-spaces};
 ghost use Rattle.filing.specs.Fields.{Shows, blank, figure-on, label-in, named, number-in, project-on};
 use crate::refusal::Refusal;
+use columns::after_spaces;
 use columns::read_number;
 use sheets::Project;
 
@@ -20,18 +20,6 @@ pub(crate) struct FiledFigure<'a> {
 pub(crate) struct FiledProject {
     pub(crate) number: i64,
     pub(crate) project: Project,
-}
-
-/// What follows the spaces that a field begins with.
-fn after_spaces(field: &[u8]) -> &[u8]
-    ensures { λ r. ⌜ now r ≡ after-spaces (now (field .entry)) ⌝ }
-{
-    for (at, byte) in field.iter().enumerate() {
-        if *byte != b' ' {
-            return &field[at..];
-        }
-    }
-    &[]
 }
 
 /// Whether there are only spaces.

@@ -2,7 +2,7 @@ ghost use Prim.Native.Nat.{_+_};
 ghost use lib.ListN.{length};
 ghost use mathlib.Core.Path.{_≡_};
 ghost use Rattle.sheets.specs.Figures.{blank};
-ghost use Rattle.filing.specs.Filed.{Stage, entering, filed-as, from, pricing, project-taken, seen};
+ghost use Rattle.filing.specs.Filed.{entering, filed-as, from, pricing, project-taken, seen};
 ghost use Rattle.filing.specs.Lines.{unread};
 ghost use Rattle.filing.specs.Reading.{Reads-figures};
 ghost use Rattle.filing.specs.Rows.{rows-of};

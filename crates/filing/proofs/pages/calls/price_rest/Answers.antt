@@ -2,7 +2,7 @@ use borrow.Author.Needs.{needs}
 use mathlib.Core.Path.{sym, ap, _∙_}
 use Rattle.std.specs.declared.option.Option.the-variants.{Some}
 use Rattle.std.specs.declared.result.Result.the-variants.{Ok, Err}
-use Rattle.filing.specs.Filed.{Stage, pricing}
+use Rattle.filing.specs.Filed.{pricing}
 use Rattle.filing.specs.Lines.{Nexts}
 use Rattle.filing.specs.Rows.{rows-of}
 use Rattle.filing.proofs.Stages.{line-accepted, line-refused}

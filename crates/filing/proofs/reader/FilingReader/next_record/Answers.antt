@@ -1,4 +1,4 @@
-use Prim.Native.Nat.{_-_, _+_, _<_, _≤_}
+use Prim.Native.Nat.{_-_, _+_, _<_}
 use borrow.Author.Tests.{false-eqb}
 use lib.Dec.{eqb}
 use lib.ListN.{drop, length, take}
