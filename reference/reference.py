@@ -431,41 +431,23 @@ def printed_lines(template):
     ]
 
 
-# a printed column: its number, three lines of heading, and what it shows
-BANDS = {
-    "MM": [
-        [
-            (3, "Project", "Gross", "Plant", 3),
-            (4, "Project", "Accumulated", "Depreciation", 4),
-            (5, "Trans. O&M", "Allocation", "Factor", "4"),
-            (6, "Allocation", "for Trans.", "O&M Expense", 6),
-            (7, "Other Exp.", "Allocation", "Factor", "9"),
-            (8, "Allocation", "for Other", "Expense", 8),
-            (9, "Annual", "Expense", "Charge", 9),
-        ],
-        [
-            (10, "Project", "Net", "Plant", 10),
-            (11, "Allocation", "Factor for", "Return", "14"),
-            (12, "Annual", "Return", "Charge", 12),
-            (13, "Project", "Depreciation", "Expense", 13),
-            (14, "Annual", "Revenue", "Requirement", 14),
-        ],
-    ],
-    "CC": [
-        [
-            (3, "Project", "Gross", "Plant", 3),
-            (4, "Allocation", "Factor for", "Expense", "9"),
-            (5, "Annual", "Expense", "Charge", 9),
-        ],
-        [
-            (6, "Project", "Net", "Plant", 10),
-            (7, "Allocation", "Factor for", "Return", "14"),
-            (8, "Annual", "Return", "Charge", 12),
-            (9, "Project", "Depreciation", "Expense", 13),
-            (10, "Annual", "Revenue", "Requirement", 14),
-        ],
-    ],
+# what a column of page 2 shows: a column under Attachment MM's number, or the factor of a line
+HEADINGS = {
+    3: ("Project", "Gross", "Plant"),
+    4: ("Project", "Accumulated", "Depreciation"),
+    "4": ("Trans. O&M", "Allocation", "Factor"),
+    6: ("Allocation", "for Trans.", "O&M Expense"),
+    8: ("Allocation", "for Other", "Expense"),
+    9: ("Annual", "Expense", "Charge"),
+    10: ("Project", "Net", "Plant"),
+    "14": ("Allocation", "Factor for", "Return"),
+    12: ("Annual", "Return", "Charge"),
+    13: ("Project", "Depreciation", "Expense"),
+    14: ("Annual", "Revenue", "Requirement"),
 }
+EXPENSE_HEADING = {"MM": ("Other Exp.", "Allocation", "Factor"), "CC": ("Allocation", "Factor for", "Expense")}
+RETURN_BAND = [10, "14", 12, 13, 14]
+BANDS = {"MM": [[3, 4, "4", 6, "9", 8, 9], RETURN_BAND], "CC": [[3, "9", 9], RETURN_BAND]}
 
 TITLE = {
     "MM": "Multi-Value Project (MVP) Revenue Requirement Calculation",
@@ -498,23 +480,26 @@ def page_one(template, page, factors):
 
 
 def page_two(template, factors, rows):
+    headings = {**HEADINGS, "9": EXPENSE_HEADING[template]}
     yield f"Attachment {template}, page 2 of 2: {TITLE[template]}"
+    number = 3
     for band in BANDS[template]:
         yield ""
-        yield f"{'':<4}{'(2)':>10}" + "".join(f"{f'({column[0]})':>16}" for column in band)
-        for part, first in ((1, "MTEP"), (2, "Project"), (3, "Number")):
-            line = "Line" if part == 3 else ""
-            yield f"{line:<4}{first:>10}" + "".join(f"{column[part]:>16}" for column in band)
-        for place, (number, columns) in enumerate(rows):
+        yield f"{'':<4}{'(2)':>10}" + "".join(f"{f'({number + place})':>16}" for place in range(len(band)))
+        number += len(band)
+        for part, first in ((0, "MTEP"), (1, "Project"), (2, "Number")):
+            line = "Line" if part == 2 else ""
+            yield f"{line:<4}{first:>10}" + "".join(f"{headings[what][part]:>16}" for what in band)
+        for place, (project, columns) in enumerate(rows):
             cells = (
                 f"{percent(factors[what]):>16}" if isinstance(what, str) else f"{columns[what]:>16,}"
-                for *_, what in band
+                for what in band
             )
-            yield f"1{chr(ord('a') + place):<3}{number:>10}" + "".join(cells)
+            yield f"1{chr(ord('a') + place):<3}{project:>10}" + "".join(cells)
         # sums stand under the charges, the depreciation expense and the requirement
         cells = (
             f"{sum(columns[what] for _, columns in rows):>16,}" if what in (9, 12, 13, 14) else f"{'':>16}"
-            for *_, what in band
+            for what in band
         )
         yield f"{'':<4}{'Sum':>10}" + "".join(cells)
     requirement = sum(columns[14] for _, columns in rows)
