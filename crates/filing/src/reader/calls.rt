@@ -22,6 +22,14 @@ fn begins_with_line(rest: &[u8]) -> bool
     !rest[0..COLUMNS].contains(&b'\n')
 }
 
+/// Where the next line begins.
+fn after_line(offset: usize) -> usize
+    requires { ⌜ offset ≤ 65536 ⌝ }
+    ensures { λ r. ⌜ r ≡ offset + 57 ⌝ }
+{
+    offset + COLUMNS + 1
+}
+
 impl Record<'_> {
     /// A refusal of this line.
     pub(crate) fn refused(&self, refusal: Refusal) -> LineRefusal
@@ -72,7 +80,7 @@ impl<'a> FilingReader<'a> {
             });
         }
         let bytes = &rest[0..COLUMNS];
-        self.offset = offset + COLUMNS + 1;
+        self.offset = after_line(offset);
         self.lines = line;
         Ok(Some(Record {
             letter: bytes[0] as char,

@@ -1,4 +1,4 @@
-use Prim.Native.Nat.{_-_, _+_, _<_}
+use Prim.Native.Nat.{_-_, _<_}
 use borrow.Author.Tests.{false-eqb}
 use lib.Dec.{eqb}
 use lib.ListN.{drop, length, take}
@@ -39,7 +39,7 @@ returns c =
     let reader = c .args .self .now in
     let bytes-are : take 56 (take (length (reader .file .now) - reader .offset) (rest-of reader)) ≡ take 56 (take 57 (rest-of reader)) =
     ap (take 56) (rest-is reader) ∙ sym (take-take 56 57 (rest-of reader) (omega arith)) in
-    let further : drop 57 (rest-of reader) ≡ drop (reader .offset + 56 + 1) (reader .file .now) = drop-drop 57 (reader .offset) (reader .file .now) ∙ ap (λ k. drop k (reader .file .now)) (omega arith) in (
+    let further : drop 57 (rest-of reader) ≡ drop (c .after-line-self .result) (reader .file .now) = drop-drop 57 (reader .offset) (reader .file .now) ∙ ap (λ k. drop k (reader .file .now)) (sym (c .after-line-self .ensures)) in (
       ap (λ bytes. whole (take 57 bytes)) (sym (rest-is reader)) ∙ sym (c .if-not-begins-with-line .ensures tt .value),
       record {
         bytes-are-the-next-line = bytes-are;
