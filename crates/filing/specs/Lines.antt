@@ -60,7 +60,7 @@ pub record Opens (file : List ℕ) (reader : FilingReader) : Type 0 where
   pub no-line-is-read : reader .lines ≡ 0
   pub all-lines-are-left : unread reader ≡ lines-of file
 
--- a record is a part of the file, with its place
+-- a record lends its bytes from the file and says where they stand
 pub record Part-of (reader : FilingReader) (r : Record) : Type 0 where
   pub bytes-are-the-next-line : r .bytes .now ≡ take 56 (next-line reader)
   pub letter-is-its-first-byte : r .letter ≡ getD (r .bytes .now) 0 0

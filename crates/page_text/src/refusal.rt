@@ -9,7 +9,7 @@ ghost use Rattle.page_text.specs.ReadBack.{Refusal-reads-back};
 use crate::field::Field;
 use crate::field::write_ended;
 
-/// The line number to column 12, and the refusal's number to column 24.
+/// The fields after the letter: the line's number in 11 columns, the refusal's in 12.
 fn refusal_fields(line: u16, number: u16) -> [Field; 2]
     ensures { λ r. ⌜ map field-of r ≡ refusal-fields line number ⌝ }
 {

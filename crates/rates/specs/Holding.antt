@@ -1,4 +1,4 @@
--- Holding: a month with nothing takes the rate of the latest of the 24 months before it that has one.
+-- Holding: where a list has no rate, the latest one of the 24 months before is taken.
 use mathlib.Core.Path.{_≡_}
 use Prim.Native.Nat.{ℕ, zero, suc, _+_, _≤_, _<_}
 use Rattle.std.specs.declared.option.Option.{Option}

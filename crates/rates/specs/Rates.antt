@@ -1,5 +1,5 @@
--- What a rate list means: for each month a rate in ten-millionths per month, or nothing.
--- A month's number is 12 × year plus 0 (January) to 11.
+-- The meaning of a rate list: the months, counted through from January of year 0, and the rate of each if it has one.
+-- Rates count ten-millionths for one month.
 use mathlib.Core.Path.{_≡_}
 use mathlib.Core.Bool.{true, cond}
 use Prim.Native.Nat.{ℕ, _+_, _*_, _≤_}

@@ -5,8 +5,8 @@ use crate::rate_list::RateList;
 /// How many months a rate is held.
 const HELD_MONTHS: u32 = 24;
 
-/// The holding list, over any list: a month with nothing takes the rate of the latest of the 24
-/// months before it that has one.
+/// The holding list, over any list: where that list has no rate, the latest one of the 24 months
+/// before is taken.
 #[derive(Drop)]
 pub struct HoldingList<L> {
     list: L,

@@ -5,7 +5,7 @@ ghost use Rattle.rates.specs.Given.{quarterly, Quarter-by-quarter};
 use crate::rate_list::RateList;
 use crate::rate_list::counted_rate;
 
-/// The quarter list: a run of rates, each for three months.
+/// The quarter list: one rate of a run after the other, a quarter each.
 #[derive(Drop)]
 pub struct QuarterList {
     // 4 × year plus 0 to 3
