@@ -10,8 +10,8 @@ const INTEREST_MONTHS: u32 = 24;
 /// The sum of the rates of `count` months from `first` on, or nothing if one is missing.
 fn sum_of_rates<L: RateList>(list: &L, first: u32, count: u32) -> Option<u32>
     requires { (first + count ≤ 2 ^ 32) × (count ≤ 255) }
-    ensures value { result ≡ sum_of (rates list.now) first count }
-    ensures adds_up { AddsUp (rates list.now) first count result }
+    ensures value { result ≡ sum_of (L.rates list.now) first count }
+    ensures adds_up { AddsUp (L.rates list.now) first count result }
 {
     let mut sum = 0;
     for i in 0..count {
@@ -24,8 +24,8 @@ fn sum_of_rates<L: RateList>(list: &L, first: u32, count: u32) -> Option<u32>
 /// The factor of a year: the sum of a list's 24 rates from its January on, or nothing if one is
 /// missing.
 pub fn factor<L: RateList>(list: &L, year: u16) -> Option<u32>
-    ensures value { result ≡ factor_of (rates list.now) year }
-    ensures adds_up { AddsUp (rates list.now) (january year) interest_months result }
+    ensures value { result ≡ factor_of (L.rates list.now) year }
+    ensures adds_up { AddsUp (L.rates list.now) (january year) interest_months result }
 {
     sum_of_rates(list, 12 * u32::from(year), INTEREST_MONTHS)
 }

@@ -18,7 +18,7 @@ impl<L: RateList> HoldingList<L> {
     /// The list that holds the rates of another.
     pub fn new(list: L) -> HoldingList<L>
         ensures stands_over_the_list { result.list ≡ list }
-        ensures holds_the_latest_rate { Holds (rates list) (held (rates result.list)) }
+        ensures holds_the_latest_rate { Holds (L.rates list) (held (L.rates result.list)) }
     {
         HoldingList { list }
     }
@@ -39,7 +39,7 @@ impl<L: RateList> RateList for HoldingList<L> {
 
 /// The rate of the latest of the `count` months before a month that has one.
 fn latest_rate_before<L: RateList>(list: &L, month: u32, count: u32) -> Option<u32>
-    ensures { result ≡ latest_before (rates list.now) month count }
+    ensures { result ≡ latest_before (L.rates list.now) month count }
 {
     for earlier in (month.saturating_sub(count)..month).rev() {
         if let Some(rate) = list.rate(earlier) {

@@ -5,14 +5,14 @@ use Rattle.amounts.proofs.Laws.{rounds, rounded_below, rounded_above, rounded_fi
 use Rattle.amounts.proofs.rounding.rounded.Goals as goal
 use Rattle.amounts.proofs.rounding.rounded.Goals.{then-n-lt0, else-n-lt0}
 
-signed_is : (c : goal.Joined-n-lt0) → c.if-n-lt0.signed ≡ rounded c.args.n c.args.d.value
-signed_is c =
+signed-is : (c : goal.Joined-n-lt0) → c.if-n-lt0.signed ≡ rounded c.args.n c.args.d.value
+signed-is c =
     let n = c.args.n in
     let d = c.args.d.value in
-    let m = c.unsigned-abs.result in
+    let m = c.unsigned_abs.result in
     elim c.if-n-lt0.branch [
-      | then-n-lt0 w ↦ omega (arith, ints, w.signed_is, rounded_below n d m (omega (arith, ints)) (omega (arith, ints)))
-      | else-n-lt0 w ↦ omega (arith, ints, w.signed_is, rounded_above n d m (omega (arith, ints)) (omega (arith, ints)))
+      | then-n-lt0 w ↦ omega (arith, ints, w.signed-is, rounded_below n d m (omega (arith, ints)) (omega (arith, ints)))
+      | else-n-lt0 w ↦ omega (arith, ints, w.signed-is, rounded_above n d m (omega (arith, ints)) (omega (arith, ints)))
     ]
 
 pub returns : goal.returns
@@ -20,5 +20,5 @@ returns c =
     let n = c.args.n in
     let d = c.args.d.value in
     let fits = rounded_fits w64 n d c.args.d.ok c.ranges.n in
-    let value = ap (λ z. to_z w64 (of_z w64 z)) (c.if-n-lt0.signed_is ∙ signed_is c) ∙ to_z-of_z w64 (rounded n d) fits in
+    let value = ap (λ z. to_z w64 (of_z w64 z)) (c.if-n-lt0.signed-is ∙ signed-is c) ∙ to_z-of_z w64 (rounded n d) fits in
     record { value = value; rounds = subst (Rounds n d) (sym value) (rounds n d c.args.d.ok) }

@@ -7,15 +7,15 @@ use Rattle.columns.specs.Texts.{begins_plainly}
 use Rattle.columns.proofs.Spelling.{not_a_number, number_spelled, well_formed_from, well_formed_readable}
 use Rattle.columns.proofs.reading.number_in.Goals as goal
 
-pub returns-then-not-begins-plainly : goal.returns-then-not-begins-plainly
-returns-then-not-begins-plainly c =
+pub returns-then-not-begins_plainly : goal.returns-then-not-begins_plainly
+returns-then-not-begins_plainly c =
     let text = c.args.text.now in
-    not_a_number text (λ h. both_ways _ (sym c.if-not-begins-plainly.ensures) (well_formed_readable text h).0.0)
+    not_a_number text (λ h. both_ways _ (sym c.if-not-begins_plainly.ensures) (well_formed_readable text h).0.0)
 
-pub returns-in-default : goal.returns-in-default
-returns-in-default c =
+pub returns-in_default : goal.returns-in_default
+returns-in_default c =
     let text = c.args.text.now in
-    not_a_number text (λ h. c.in-default.ensures.cases.0 (well_formed_readable text h).0.1)
+    not_a_number text (λ h. c.in_default.ensures.cases.0 (well_formed_readable text h).0.1)
 
 pub returns-in-Ok-parse : goal.returns-in-Ok-parse
 returns-in-Ok-parse c =
@@ -23,7 +23,7 @@ returns-in-Ok-parse c =
     let same : text ≡ c.args.text.now = c.in-Ok.ensures.cases.0 in
     let read = c.in-Ok-parse.ensures.value.0 in
     let fits : SFits w128 c.in-Ok-parse.n = subst (SFits w128) (sym read.1) read.0.1 in
-    let formed = well_formed_from text (ap begins_plainly same ∙ sym c.if-not-begins-plainly.ensures) read.0.0 read.0.1 in
+    let formed = well_formed_from text (ap begins_plainly same ∙ sym c.if-not-begins_plainly.ensures) read.0.0 read.0.1 in
     ap Ok (to_z-of_z w128 c.in-Ok-parse.n fits ∙ read.1) ∙ number_spelled text formed ∙ ap number_in same
 
 pub returns-in-Err : goal.returns-in-Err

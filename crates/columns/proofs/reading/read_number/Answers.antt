@@ -7,7 +7,7 @@ pub returns : goal.returns
 unfolding reading
 returns c =
     let field = c.args.field.now in
-    let answer : c.number-in.result ≡ reading field = c.number-in.ensures ∙ ap number_in c.after_spaces.ensures in
+    let answer : c.number_in.result ≡ reading field = c.number_in.ensures ∙ ap number_in c.after_spaces.ensures in
     record {
       answer = answer;
       reads_what_is_held = subst (ReadsWhatIsHeld field) (sym answer) (reads_what_is_held field);

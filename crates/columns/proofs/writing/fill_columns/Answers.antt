@@ -11,5 +11,5 @@ returns c =
     let first = c.args.first in
     let columns = c.args.columns.now in
     let blank : c.fill.new.self ≡ replicate first 32 = c.fill.ensures.after (λ y h. h) ∙ ap (λ (k : ℕ). replicate k 32) (length-take-le first columns (omega arith)) in
-    spaces_and_rest first c.fill.new.self (drop first columns) c.write-text.new.columns blank
-    ∙ ap (λ text. replicate first 32 ++ text) (c.write-text.ensures ∙ ap text_of (to_z-of_z w128 c.args.n c.ranges.n))
+    spaces_and_rest first c.fill.new.self (drop first columns) c.write_text.new.columns blank
+    ∙ ap (λ text. replicate first 32 ++ text) (c.write_text.ensures ∙ ap text_of (to_z-of_z w128 c.args.n c.ranges.n))

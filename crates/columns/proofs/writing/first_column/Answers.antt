@@ -7,5 +7,5 @@ use Rattle.columns.proofs.writing.first_column.Goals as goal
 
 pub returns : goal.returns
 returns c =
-    begins c.args.columns.now c.args.n c.width.result c.checked-sub.result
-    (c.width.ensures ∙ ap width_of (to_z-of_z w128 c.args.n c.ranges.n)) c.checked-sub.ensures
+    begins c.args.columns.now c.args.n c.width.result c.checked_sub.result
+    (c.width.ensures ∙ ap width_of (to_z-of_z w128 c.args.n c.ranges.n)) c.checked_sub.ensures

@@ -11,6 +11,6 @@ returns-then-n-lt0 c =
     let n = to_z-of_z w128 c.args.n c.ranges.n in
     let below : lt_z c.args.n (pos 0) ≡ true = rw n at c.if-n-lt0.true in
     let text = minus_and_digits c.args.n below in
-    first_and_rest c.args.columns.now c.write-digits.new.columns 45 (omega (arith, ap length text))
-    ∙ ap (λ ds. 45 ∷ ds) (c.write-digits.ensures ∙ ap digits_of (c.unsigned-abs-size.ensures.value ∙ ap nat_abs n))
+    first_and_rest c.args.columns.now c.write_digits.new.columns 45 (omega (arith, ap length text))
+    ∙ ap (λ ds. 45 ∷ ds) (c.write_digits.ensures ∙ ap digits_of (c.unsigned_abs-size.ensures.value ∙ ap nat_abs n))
     ∙ text
