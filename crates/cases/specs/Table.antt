@@ -1,38 +1,13 @@
 -- The table of worked cases: each says what the definitions give for figures worked by hand or printed in the tariff.
-use Rattle.std.specs.Prelude.{◌≡◌, ℕ, ◌<◌, [], ◌∷◌, ℤ, pos, neg_ℤ, Some, None, Ok}
-use Rattle.journals.specs.Journal.{holding}
-use Rattle.rates.specs.Factor.{interest_months}
-use Rattle.rates.specs.Given.{flat}
+use Rattle.std.specs.Prelude.{◌≡◌, ℕ, ◌<◌, pos, Some, None}
 use Rattle.rates.specs.Holding.{held}
 use Rattle.rates.specs.Rates.{Rates, december, january}
-use Rattle.settlement.specs.declared.refusal.Refusal.TheVariants.{RequirementOutOfRange}
-use Rattle.settlement.specs.declared.state.State.TheVariants.{Draft, Posted}
-use Rattle.settlement.specs.Billing.{resettled}
-use Rattle.settlement.specs.Books.{BookView, nothing_held}
-use Rattle.settlement.specs.Closing.{terms_at}
-use Rattle.settlement.specs.Drafting.{filed}
-use Rattle.settlement.specs.Outcomes.{done, refused}
-use Rattle.settlement.specs.Paying.{paid}
-use Rattle.settlement.specs.Rules.{charge, charge_scale, figures, figures_on, left_over, nothing_due, rate_scale, true_up, usage_rate}
 use Rattle.sheets.specs.Attachments.{cc_rules, mm_rules}
 use Rattle.cases.specs.Sheets.{cc_figures, factors_of_sheet, mm_figures, project, requirement}
-use Rattle.cases.specs.Years.{ThreeYearsRun, book, row}
 
 -- the last month of a list that has a rate, and the rate
 abbrev pub LastRate : Rates → ℕ → ℕ → Type 0
 LastRate rates last rate = (rates last ≡ Some rate) × ((month : ℕ) → last < month → rates month ≡ None)
-
--- a posted year with columns 16 of 1 and 2, its money, what the two rows are paid, and the one reading
-abbrev pub two_columns : ℤ → ℤ → ℤ → ℤ → ℕ → BookView
-two_columns rate money paid_1 paid_2 kwh =
-    book 2026 (Posted rate) money (row 1 (pos 0) (pos 0) (pos 0) (Some (pos 1)) None paid_1 ∷ row 2 (pos 0) (pos 0) (pos 0) (Some (pos 2)) None paid_2 ∷ []) (holding nothing_held (1, 1) kwh)
-
--- a draft with one row that owes 27,825 dollars this year, and its requirement
-abbrev pub refund_due : BookView
-refund_due = book 2028 Draft (pos 0) (row 7 (neg_ℤ (pos 27825)) (pos 0) (pos 0) None None (pos 0) ∷ []) nothing_held
-
-abbrev pub refund_filed : ℤ → BookView
-refund_filed requirement = book 2028 Draft (pos 0) (row 7 (neg_ℤ (pos 27825)) (pos 0) (pos 0) (Some requirement) None (pos 0) ∷ []) nothing_held
 
 pub record WorkedCases : Type 0 where
   -- Attachment MM: lines 4, 9 and 14, and project 7
@@ -46,27 +21,3 @@ pub record WorkedCases : Type 0 where
   -- December 2012 is the last month with a rate: holding covers December 2014, and January 2015 has nothing
   pub rate_held_to_december_2014 : (rates : Rates) (rate : ℕ) → LastRate rates (december 2012) rate → held rates (december 2014) ≡ Some rate
   pub no_rate_in_january_2015 : (rates : Rates) (rate : ℕ) → LastRate rates (december 2012) rate → held rates (january 2015) ≡ None
-  -- columns 16 of 1 and 2: money of 100, the same resettled to 50, and three steps of one cent
-  pub money_of_100_pays_33_and_66 : paid (two_columns (pos 30000) (pos 100) (pos 0) (pos 0) 333) ≡ done (pos 99, pos 1) (two_columns (pos 30000) (pos 100) (pos 33) (pos 66) 333)
-  pub money_resettled_to_50 : (resettled (two_columns (pos 30000) (pos 100) (pos 33) (pos 66) 333) (pos 1) (pos 1) (pos 167)).answer ≡ Ok (neg_ℤ (pos 50))
-  pub money_of_50_pays_16_and_33 : paid (two_columns (pos 30000) (pos 50) (pos 33) (pos 66) 167) ≡ done (neg_ℤ (pos 50), pos 1) (two_columns (pos 30000) (pos 50) (pos 16) (pos 33) 167)
-  pub first_cent_pays_nothing : paid (two_columns (pos 30000) (pos 1) (pos 0) (pos 0) 3) ≡ done (pos 0, pos 1) (two_columns (pos 30000) (pos 1) (pos 0) (pos 0) 3)
-  pub second_cent_pays_0_and_1 : paid (two_columns (pos 30000) (pos 2) (pos 0) (pos 0) 7) ≡ done (pos 1, pos 1) (two_columns (pos 30000) (pos 2) (pos 0) (pos 1) 7)
-  pub third_cent_pays_1_and_2 : paid (two_columns (pos 30000) (pos 3) (pos 0) (pos 1) 10) ≡ done (pos 2, pos 0) (two_columns (pos 30000) (pos 3) (pos 1) (pos 2) 10)
-  -- 1 and 2 kilowatt-hours both cost a cent: the change is 0
-  pub both_readings_cost_a_cent : (resettled (two_columns (pos 50000) (pos 1) (pos 0) (pos 0) 1) (pos 1) (pos 1) (pos 2)).answer ≡ Ok (pos 0)
-  -- a total of 2,950,000 over a forecast of 2,000,000
-  pub usage_rate_is_14750 : usage_rate rate_scale (pos 2950000) 2000000 ≡ pos 14750
-  pub million_kilowatt_hours_cost_147500_cents : charge charge_scale 1000000 (pos 14750) ≡ pos 147500
-  pub one_kilowatt_hour_costs_nothing : charge charge_scale 1 (pos 14750) ≡ pos 0
-  -- an actual of 1,950,000 against 197,625,000 cents paid, at a flat rate of 25,000
-  pub over_recovery_is_refunded : (year : ℕ) → figures (terms_at interest_months (record { rates = flat 25000 }) year) (pos 1950000) nothing_due (pos 197625000) ≡ record { difference = neg_ℤ (pos 2625000); interest = neg_ℤ (pos 157500); true_up = neg_ℤ (pos 27825); kept = pos 0 }
-  -- cents in whole dollars, and the cents kept: 1,049; then a difference of 1 at factor 0; and 50 below zero
-  pub cents_1049_settle_to_10_dollars : (true_up (pos 1049) ≡ pos 10) × (left_over (pos 1049) ≡ pos 49)
-  pub one_cent_more_settles_to_1_dollar : figures_on (λ owed. 0) (pos 1) (pos 49) ≡ record { difference = pos 1; interest = pos 0; true_up = pos 1; kept = neg_ℤ (pos 50) }
-  pub half_a_dollar_below_settles_away_from_zero : (true_up (neg_ℤ (pos 50)) ≡ neg_ℤ (pos 1)) × (left_over (neg_ℤ (pos 50)) ≡ pos 50)
-  -- with -27,825 due now, a requirement may be 27,825 and not less
-  pub requirement_of_27825_is_filed : filed refund_due (pos 7) (pos 27825) ≡ done tt (refund_filed (pos 27825))
-  pub requirement_of_27824_is_refused : filed refund_due (pos 7) (pos 27824) ≡ refused RequirementOutOfRange refund_due
-  -- a run of three years
-  pub three_years : ThreeYearsRun

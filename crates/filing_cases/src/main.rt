@@ -1,3 +1,4 @@
+#![tactic(auto)]
 use filed_pages::write_pages;
 use std::io;
 use std::io::{Read, Write};

@@ -1,4 +1,5 @@
 //! Tests of the rate lists, against rates worked out by hand.
+#![tactic(auto)]
 
 #[cfg(test)]
 mod tests {

@@ -2,6 +2,7 @@
 //! calls; and the law that no run of calls makes or loses a cent. The definitions stand in specs/,
 //! the proof of the law in proofs/. The code is only the types that the definitions share with
 //! the book.
+#![tactic(auto)]
 mod refusal;
 mod row_answer;
 mod state;

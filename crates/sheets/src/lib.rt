@@ -1,3 +1,4 @@
+#![tactic(auto)]
 mod attachment_cc;
 mod attachment_mm;
 mod elements;

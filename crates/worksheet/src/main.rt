@@ -1,3 +1,4 @@
+#![tactic(auto)]
 mod example;
 mod filed;
 mod layout;

@@ -1,39 +1,11 @@
 use Rattle.std.proofs.Common.{refl}
-use Rattle.amounts.specs.Rounding.{rounded, rounded_down}
+use Rattle.amounts.specs.Rounding.{rounded}
 use Rattle.cases.proofs.Holding.{held_to_december_2014, none_in_january_2015}
-use Rattle.cases.proofs.Settling.{refunded}
-use Rattle.cases.proofs.ThreeYears.{three_years_run}
 use Rattle.cases.proofs.worked_cases.Goals as goal
 
 pub returns : goal.returns
-unfolding rounded rounded_down
+unfolding rounded
 returns c = record {
-  table = record {
-    mm_factors = refl;
-    mm_project_7 = refl;
-    cc_factors = refl;
-    cc_project_1 = refl;
-    cc_project_2 = refl;
-    cc_project_3 = refl;
-    rate_held_to_december_2014 = held_to_december_2014;
-    no_rate_in_january_2015 = none_in_january_2015;
-    money_of_100_pays_33_and_66 = refl;
-    money_resettled_to_50 = refl;
-    money_of_50_pays_16_and_33 = refl;
-    first_cent_pays_nothing = refl;
-    second_cent_pays_0_and_1 = refl;
-    third_cent_pays_1_and_2 = refl;
-    both_readings_cost_a_cent = refl;
-    usage_rate_is_14750 = refl;
-    million_kilowatt_hours_cost_147500_cents = refl;
-    one_kilowatt_hour_costs_nothing = refl;
-    over_recovery_is_refunded = refunded;
-    cents_1049_settle_to_10_dollars = (refl, refl);
-    one_cent_more_settles_to_1_dollar = refl;
-    half_a_dollar_below_settles_away_from_zero = (refl, refl);
-    requirement_of_27825_is_filed = refl;
-    requirement_of_27824_is_refused = refl;
-    three_years = three_years_run;
-  };
+  table = record { mm_factors = refl; mm_project_7 = refl; cc_factors = refl; cc_project_1 = refl; cc_project_2 = refl; cc_project_3 = refl; rate_held_to_december_2014 = held_to_december_2014; no_rate_in_january_2015 = none_in_january_2015 };
   count = refl;
 }

@@ -9,7 +9,7 @@ use Rattle.settlement.specs.Books.{BookView, nothing_held}
 use Rattle.settlement.specs.Calls.{Call, file, post, bill, resettle, pay, state, close}
 use Rattle.settlement.specs.Drafting.{opened}
 use Rattle.settlement.specs.Runs.{Run, Step, no_call, one_more}
-use Rattle.cases.specs.Years.{ThreeYearsRun, book, every_month, last_book, row, three_years}
+use Rattle.settlement_cases.specs.Years.{ThreeYearsRun, book, every_month, last_book, row, three_years}
 
 abbrev Goes : Call → BookView → BookView → Type 0
 Goes c b b' = Step (λ b. b) (λ b pair. true) c b b'

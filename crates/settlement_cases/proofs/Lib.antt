@@ -1,0 +1,2 @@
+pub mod ThreeYears
+pub mod Settling
