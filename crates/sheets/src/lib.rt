@@ -1,4 +1,5 @@
 #![tactic(auto)]
+
 mod attachment_cc;
 mod attachment_mm;
 mod elements;

@@ -15,7 +15,7 @@ use std::marker::PhantomData;
 
 /// Whether every line of the template has an amount.
 fn complete<T: Template>(figures: &Figures) -> bool
-    ensures { result ≡ is_complete rules figures.now }
+    ensures { result ≡ is_complete T.rules figures.now }
 {
     for place in 0..T::line_count() {
         if let Some(line) = T::line_at(place) {
@@ -30,7 +30,7 @@ fn complete<T: Template>(figures: &Figures) -> bool
 /// Page 1 of figures that are all entered.
 fn work_out<T: Template>(figures: &Figures) -> Result<Factors, Refusal>
     requires { InRange figures.now }
-    ensures value { result ≡ worked hundredths rules figures.now }
+    ensures value { result ≡ worked hundredths T.rules figures.now }
     ensures fits { IfOk result (λ p. factors_fit hundredths p ≡ true) }
 {
     page_one(T::elements(figures), T::adjusted_om_fits(figures))
@@ -56,7 +56,7 @@ impl<T: Template> OpenSheet<T> {
 
     /// Enters the amount of a line; a later entry replaces an earlier one.
     pub fn enter(&mut self, line: T::Line, amount: i64) -> Result<(), Refusal>
-        ensures { Gives (entered (rules.figure_of line) amount self.old.figures) result self.new.figures }
+        ensures { Gives (entered (T.rules.figure_of line) amount self.old.figures) result self.new.figures }
     {
         let figure = T::figure(line);
         if !figure.takes(amount) {
@@ -68,7 +68,7 @@ impl<T: Template> OpenSheet<T> {
 
     /// Enters the amount of the line with this printed label.
     pub fn enter_labelled(&mut self, label: &[u8], amount: i64) -> Result<(), Refusal>
-        ensures { Gives (entered_labelled rules label.now amount self.old.figures) result self.new.figures }
+        ensures { Gives (entered_labelled T.rules label.now amount self.old.figures) result self.new.figures }
     {
         let Some(line) = T::labelled(label) else {
             return Err(Refusal::UnknownLine);
@@ -84,7 +84,7 @@ impl<T: Template> OpenSheet<T> {
     }
 
     fn asked_page_one(self) -> Result<WorkedSheet<T>, (Refusal, OpenSheet<T>)>
-        ensures { seen (λ w. (w.figures, w.factors)) (λ e. (e.0, e.1.figures)) result ≡ finish_outcome hundredths rules self.figures }
+        ensures { seen (λ w. (w.figures, w.factors)) (λ e. (e.0, e.1.figures)) result ≡ finish_outcome hundredths T.rules self.figures }
     {
         if !complete::<T>(&self.figures) {
             return Err((Refusal::LineMissing, self));
@@ -104,9 +104,9 @@ impl<T: Template> OpenSheet<T> {
 
     /// Works out page 1 and uses the sheet up; a refusal gives the sheet back.
     pub fn finish(self) -> Result<WorkedSheet<T>, (Refusal, OpenSheet<T>)>
-        ensures outcome { seen (λ w. (w.figures, w.factors)) (λ e. (e.0, e.1.figures)) result ≡ finish_outcome hundredths rules self.figures }
-        ensures follows_the_tariff { IfOk result (λ w. PageOneFollows hundredths (rules.elements_of self.figures) w.factors) }
-        ensures printed_sums_hold { sums self.figures (rules.elements_of self.figures) }
+        ensures outcome { seen (λ w. (w.figures, w.factors)) (λ e. (e.0, e.1.figures)) result ≡ finish_outcome hundredths T.rules self.figures }
+        ensures follows_the_tariff { IfOk result (λ w. PageOneFollows hundredths (T.rules.elements_of self.figures) w.factors) }
+        ensures printed_sums_hold { T.sums self.figures (T.rules.elements_of self.figures) }
     {
         self.asked_page_one()
     }

@@ -125,7 +125,7 @@ fn requirement(charges: i64, depreciation: i64) -> i64
 impl<T: Template> WorkedSheet<T> {
     fn om_expense(&self, project: &Project) -> i64
         requires { ProjectFits project.now }
-        ensures value { result ≡ om_charge hundredths self.now.factors.transmission_om (rules.om_base project.now) }
+        ensures value { result ≡ om_charge hundredths self.now.factors.transmission_om (T.rules.om_base project.now) }
         ensures bound { unsigned_abs result ≤ 100000000000 }
     {
         om_charge(T::om_base(project), self.factors.transmission_om)
@@ -133,7 +133,7 @@ impl<T: Template> WorkedSheet<T> {
 
     fn columns(&self, project: &Project) -> Columns
         requires { ProjectFits project.now }
-        ensures { result ≡ columns_of hundredths self.now.factors rules.om_base project.now }
+        ensures { result ≡ columns_of hundredths self.now.factors T.rules.om_base project.now }
     {
         let om = self.om_expense(project);
         let other = other_charge(project, self.factors.expense.total);
@@ -151,7 +151,7 @@ impl<T: Template> WorkedSheet<T> {
     }
 
     fn asked_columns(&self, project: Project) -> Result<Columns, Refusal>
-        ensures { result ≡ priced hundredths self.now.factors rules.om_base project }
+        ensures { result ≡ priced hundredths self.now.factors T.rules.om_base project }
     {
         if !project_fits(&project) {
             return Err(Refusal::ProjectOutOfRange);
@@ -165,8 +165,8 @@ impl<T: Template> WorkedSheet<T> {
 
     /// Prices a project: its columns, or the first question that is answered no.
     pub fn price(&self, project: Project) -> Result<Columns, Refusal>
-        ensures outcome { result ≡ priced hundredths self.now.factors rules.om_base project }
-        ensures follows_the_tariff { IfOk result (PageTwoFollows hundredths self.now.factors rules.om_base project) }
+        ensures outcome { result ≡ priced hundredths self.now.factors T.rules.om_base project }
+        ensures follows_the_tariff { IfOk result (PageTwoFollows hundredths self.now.factors T.rules.om_base project) }
         ensures columns_in_range { IfOk result ColumnsInRange }
     {
         self.asked_columns(project)
@@ -181,7 +181,7 @@ impl<T: Template> WorkedSheet<T> {
 
     /// The cost elements of page 1, entered or worked out.
     pub fn elements(&self) -> Elements
-        ensures { result ≡ rules.elements_of self.now.figures }
+        ensures { result ≡ T.rules.elements_of self.now.figures }
     {
         T::elements(&self.figures)
     }

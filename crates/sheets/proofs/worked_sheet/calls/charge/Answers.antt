@@ -11,5 +11,5 @@ returns c =
     let b = c.ranges.factor in
     let product = product_within c.args.amount c.args.factor 10000000000 100000 c.requires.0 c.requires.1 in
     let size = rounded_within (c.args.amount *ℤ c.args.factor) 10000 100000000000 (omega arith) product in
-    let value : c.nearest-dollar.result ≡ rounded (c.args.amount *ℤ c.args.factor) 10000 = simp to_z-of_z at c.nearest-dollar.ensures in
+    let value : c.nearest_dollar.result ≡ rounded (c.args.amount *ℤ c.args.factor) 10000 = simp to_z-of_z at c.nearest_dollar.ensures in
     record { value = omega (arith, ints); bound = omega (arith, ints) }
