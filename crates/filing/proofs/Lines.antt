@@ -19,7 +19,7 @@ no_byte b (x ∷ xs) h =
     (no_byte b xs (λ k l e. h (suc k) (omega arith) e))
 
 -- what `contains` answers
-pub without_from : (b : ℕ) (bs : List ℕ) (r : Bool) → IsAnyAnswer (λ y t. Decides t (y ≡ b)) bs r → not r ≡ without b bs
+pub without_from : (b : ℕ) (bs : List ℕ) (r : Bool) → IsAnyAnswer (λ y t. eqb y b ≡ t) bs r → not r ≡ without b bs
 without_from b bs r h =
     let d = contains_decides eqb Decides-eqb bs b r h in
     ⊎_elim

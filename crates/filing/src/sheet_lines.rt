@@ -18,7 +18,7 @@ pub(crate) fn enter_figure<T: Template>(
     line: &[u8],
 ) -> Result<(), Refusal>
     requires { length line.now ≡ 56 }
-    ensures { Leaves (figure_taken rules sheet.old.figures line.now) result sheet.new.figures }
+    ensures { Leaves (figure_taken T.rules sheet.old.figures line.now) result sheet.new.figures }
 {
     let figure = read_figure(line)?;
     match sheet.enter_labelled(figure.label, figure.amount) {
@@ -29,7 +29,7 @@ pub(crate) fn enter_figure<T: Template>(
 
 /// Finishes page 1.
 pub(crate) fn finish<T: Template>(sheet: OpenSheet<T>) -> Result<WorkedSheet<T>, Refusal>
-    ensures { seen (λ w. (w.figures, w.factors)) result ≡ page_one_at rules (entering sheet.figures) }
+    ensures { seen (λ w. (w.figures, w.factors)) result ≡ page_one_at T.rules (entering sheet.figures) }
 {
     match sheet.finish() {
         Ok(worked) => Ok(worked),
@@ -48,7 +48,7 @@ pub(crate) fn price<T: Template>(
     sheet: &WorkedSheet<T>,
     filed: FiledProject,
 ) -> Result<PricedProject, Refusal>
-    ensures { seen row_of result ≡ priced_row rules sheet.now.factors filed }
+    ensures { seen row_of result ≡ priced_row T.rules sheet.now.factors filed }
 {
     let FiledProject { number, project } = filed;
     if !number_fits(number) {
@@ -71,7 +71,7 @@ fn add_project<T: Template>(
     projects: &mut PricedProjects,
 ) -> Result<(), Refusal>
     requires { length line.now ≡ 56 }
-    ensures { Leaves (project_taken rules (pricing sheet.now.figures sheet.now.factors (rows_of projects.old)) line.now) result (pricing sheet.now.figures sheet.now.factors (rows_of projects.new)) }
+    ensures { Leaves (project_taken T.rules (pricing sheet.now.figures sheet.now.factors (rows_of projects.old)) line.now) result (pricing sheet.now.figures sheet.now.factors (rows_of projects.new)) }
 {
     let filed = read_project(line)?;
     if !projects.has_room() {
@@ -89,7 +89,7 @@ pub(crate) fn take_project<T: Template>(
     projects: &mut PricedProjects,
 ) -> Result<(), Refusal>
     requires { length line.bytes.now ≡ 56 }
-    ensures { Leaves (by_letter rules (pricing sheet.now.figures sheet.now.factors (rows_of projects.old)) line.entry.letter line.entry.bytes.now) result (pricing sheet.now.figures sheet.now.factors (rows_of projects.new)) }
+    ensures { Leaves (by_letter T.rules (pricing sheet.now.figures sheet.now.factors (rows_of projects.old)) line.entry.letter line.entry.bytes.now) result (pricing sheet.now.figures sheet.now.factors (rows_of projects.new)) }
 {
     match line.letter {
         'P' => add_project(sheet, line.bytes, projects),

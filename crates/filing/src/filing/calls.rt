@@ -20,7 +20,7 @@ const LONGEST: usize = 65_536;
 /// Reads a filing of this template, whose first line is the T line.
 fn read_sheet<T: Template>(line: Record, reader: FilingReader) -> Result<Pages<T>, LineRefusal>
     requires { (length line.bytes.now ≡ 56) × ((line.line ≡ 1) × (reader.lines ≡ 1)) }
-    ensures { seen (λ p. filed_as p.sheet.figures p.sheet.factors (rows_of p.projects)) result ≡ sheet_filed rules line.entry.bytes.now (unread reader.entry) }
+    ensures { seen (λ p. filed_as p.sheet.figures p.sheet.factors (rows_of p.projects)) result ≡ sheet_filed T.rules line.entry.bytes.now (unread reader.entry) }
 {
     if !is_blank(&line.bytes[4..56]) {
         return Err(line.refused(Refusal::MalformedField));

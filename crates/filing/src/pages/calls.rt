@@ -18,7 +18,7 @@ fn read_figures<'a, T: Template>(
     reader: &mut FilingReader<'a>,
     sheet: &mut OpenSheet<T>,
 ) -> Result<Record<'a>, LineRefusal>
-    ensures { ReadsFigures rules reader.old sheet.old.figures result reader.new sheet.new.figures }
+    ensures { ReadsFigures T.rules reader.old sheet.old.figures result reader.new sheet.new.figures }
 {
     'lines: while let Some(line) = reader.next_record()? {
         match line.letter {
@@ -40,7 +40,7 @@ fn read_figures<'a, T: Template>(
 /// Finishes page 1 at the first P line, and prices its project.
 fn first_project<T: Template>(sheet: OpenSheet<T>, line: &[u8]) -> Result<Pages<T>, Refusal>
     requires { length line.now ≡ 56 }
-    ensures { seen (λ p. pricing p.sheet.figures p.sheet.factors (rows_of p.projects)) result ≡ project_taken rules (entering sheet.figures) line.now }
+    ensures { seen (λ p. pricing p.sheet.figures p.sheet.factors (rows_of p.projects)) result ≡ project_taken T.rules (entering sheet.figures) line.now }
 {
     let filed = read_project(line)?;
     let sheet = finish(sheet)?;
@@ -56,7 +56,7 @@ fn price_rest<T: Template>(
     mut reader: FilingReader,
     mut pages: Pages<T>,
 ) -> Result<Pages<T>, LineRefusal>
-    ensures { seen (λ p. filed_as p.sheet.figures p.sheet.factors (rows_of p.projects)) result ≡ from rules (reader.entry.lines + 1) (pricing pages.sheet.figures pages.sheet.factors (rows_of pages.projects)) (unread reader.entry) }
+    ensures { seen (λ p. filed_as p.sheet.figures p.sheet.factors (rows_of p.projects)) result ≡ from T.rules (reader.entry.lines + 1) (pricing pages.sheet.figures pages.sheet.factors (rows_of pages.projects)) (unread reader.entry) }
 {
     'lines: while let Some(line) = reader.next_record()? {
         if let Err(refusal) = take_project(&pages.sheet, line, &mut pages.projects) {
@@ -68,7 +68,7 @@ fn price_rest<T: Template>(
 
 /// Reads the lines after the T line.
 pub(crate) fn read_lines<T: Template>(mut reader: FilingReader) -> Result<Pages<T>, LineRefusal>
-    ensures { seen (λ p. filed_as p.sheet.figures p.sheet.factors (rows_of p.projects)) result ≡ from rules (reader.entry.lines + 1) (entering blank) (unread reader.entry) }
+    ensures { seen (λ p. filed_as p.sheet.figures p.sheet.factors (rows_of p.projects)) result ≡ from T.rules (reader.entry.lines + 1) (entering blank) (unread reader.entry) }
 {
     let mut sheet = OpenSheet::new();
     let line = read_figures(&mut reader, &mut sheet)?;

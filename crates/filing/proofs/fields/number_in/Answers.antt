@@ -8,8 +8,8 @@ use Rattle.filing.proofs.fields.number_in.Goals as goal
 below : (c : goal.In-Ok) → nat_abs c.in-Ok.number < 10 ^ 12
 below c = read_is_below 12 c.args.field.now c.in-Ok.number c.requires (sym c.in-Ok.ensures.answer)
 
-pub overflow-cast-result : goal.overflow-cast-result
-overflow-cast-result c = let b = below c in search (rules, ints)
+pub overflow_cast-result : goal.overflow_cast-result
+overflow_cast-result c = let b = below c in search (rules, ints)
 
 pub returns-in-Ok : goal.returns-in-Ok
 returns-in-Ok c =

@@ -4,6 +4,6 @@ use Rattle.filing.proofs.filing.calls.read_pages.Goals as goal
 
 pub returns : goal.returns
 returns c = record {
-  outcome = c.read-whole.ensures;
-  records_and_bytes_determine_each_other = records_and_bytes view c.args.file.now c.read-whole.result c.read-whole.ensures;
+  outcome = c.read_whole.ensures;
+  records_and_bytes_determine_each_other = records_and_bytes view c.args.file.now c.read_whole.result c.read_whole.ensures;
 }

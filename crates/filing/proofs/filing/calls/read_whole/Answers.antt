@@ -8,14 +8,14 @@ pub returns-in-T : goal.returns-in-T
 returns-in-T c =
     let line = c.in-Some.line in
     let opened : Opens c.args.file.now c.new-reader.result = search rules in
-    let n : Nexts c.new-reader.result (Ok (Some line)) c.next-record.new.self = search rules in
-    c.read-named.ensures ∙ sym (filing_begins c.args.file.now c.new-reader.result c.next-record.new.self line opened n ∙ template_line line.letter _ c.in-T.is)
+    let n : Nexts c.new-reader.result (Ok (Some line)) c.next_record.new.self = search rules in
+    c.read_named.ensures ∙ sym (filing_begins c.args.file.now c.new-reader.result c.next_record.new.self line opened n ∙ template_line line.letter _ c.in-T.is)
 
-pub returns-in-default-letter : goal.returns-in-default-letter
-returns-in-default-letter c =
+pub returns-in_default-letter : goal.returns-in_default-letter
+returns-in_default-letter c =
     let line = c.in-Some.line in
     let opened : Opens c.args.file.now c.new-reader.result = search rules in
-    let n : Nexts c.new-reader.result (Ok (Some line)) c.next-record.new.self = search rules in
+    let n : Nexts c.new-reader.result (Ok (Some line)) c.next_record.new.self = search rules in
     let first : line.line ≡ 1 = omega (arith, n.1.has_the_next_number, opened.no_line_is_read) in
     ap Err (c.refused.ensures ∙ ap (λ k. at_line k LetterOutOfPlace) first)
-    ∙ sym (filing_begins c.args.file.now c.new-reader.result c.next-record.new.self line opened n ∙ not_a_template_line line.letter _ (λ e. omega arith))
+    ∙ sym (filing_begins c.args.file.now c.new-reader.result c.next_record.new.self line opened n ∙ not_a_template_line line.letter _ (λ e. omega arith))

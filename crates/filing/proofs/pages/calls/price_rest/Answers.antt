@@ -11,8 +11,8 @@ returns-in-Err g c =
     let line = c.in-Some.line in
     let pages = c.lines.pages in
     let stage = pricing pages.sheet.figures pages.sheet.factors (rows_of pages.projects) in
-    let n : Nexts c.lines.reader (Ok (Some line)) c.next-record.new.self = search rules in
-    sym (c.lines.invariant ∙ line_refused t c.lines.reader c.next-record.new.self line n stage _ c.in-Err.ensures ∙ ap Err (sym c.refused.ensures))
+    let n : Nexts c.lines.reader (Ok (Some line)) c.next_record.new.self = search rules in
+    sym (c.lines.invariant ∙ line_refused t c.lines.reader c.next_record.new.self line n stage _ c.in-Err.ensures ∙ ap Err (sym c.refused.ensures))
 
 pub lines-preserved : goal.lines-preserved
 lines-preserved g c =
@@ -20,5 +20,5 @@ lines-preserved g c =
     let line = c.in-Some.line in
     let pages = c.lines.pages in
     let stage = pricing pages.sheet.figures pages.sheet.factors (rows_of pages.projects) in
-    let n : Nexts c.lines.reader (Ok (Some line)) c.next-record.new.self = search rules in
-    c.lines.invariant ∙ line_accepted t c.lines.reader c.next-record.new.self line n stage _ c.in-default-take-project.ensures
+    let n : Nexts c.lines.reader (Ok (Some line)) c.next_record.new.self = search rules in
+    c.lines.invariant ∙ line_accepted t c.lines.reader c.next_record.new.self line n stage _ c.in_default-take_project.ensures

@@ -11,25 +11,25 @@ returns-in-Err g c =
     let t = g.T.Template.rules in
     let line = c.in-Some.line in
     let f = c.lines.sheet.figures in
-    let n : Nexts c.lines.reader (Ok (Some line)) c.next-record.new.self = search rules in
+    let n : Nexts c.lines.reader (Ok (Some line)) c.next_record.new.self = search rules in
     let taken = figure_line t f line.letter line.bytes.now c.in-F.is ∙ ap (λ x. then x (λ h. Ok (entering h))) c.in-Err.ensures in
-    c.lines.invariant ∙ line_refused t c.lines.reader c.next-record.new.self line n (entering f) _ taken ∙ ap Err (sym c.refused.ensures)
+    c.lines.invariant ∙ line_refused t c.lines.reader c.next_record.new.self line n (entering f) _ taken ∙ ap Err (sym c.refused.ensures)
 
 pub lines-preserved : goal.lines-preserved
 lines-preserved g c =
     let t = g.T.Template.rules in
     let line = c.in-Some.line in
     let f = c.lines.sheet.figures in
-    let n : Nexts c.lines.reader (Ok (Some line)) c.next-record.new.self = search rules in
-    let taken = figure_line t f line.letter line.bytes.now c.in-F.is ∙ ap (λ x. then x (λ h. Ok (entering h))) c.in-default-enter-figure.ensures in
-    c.lines.invariant ∙ line_accepted t c.lines.reader c.next-record.new.self line n (entering f) _ taken
+    let n : Nexts c.lines.reader (Ok (Some line)) c.next_record.new.self = search rules in
+    let taken = figure_line t f line.letter line.bytes.now c.in-F.is ∙ ap (λ x. then x (λ h. Ok (entering h))) c.in_default-enter_figure.ensures in
+    c.lines.invariant ∙ line_accepted t c.lines.reader c.next_record.new.self line n (entering f) _ taken
 
 pub returns-in-P : goal.returns-in-P
 returns-in-P g c =
     let t = g.T.Template.rules in
     let line = c.in-Some.line in
     let f = c.lines.sheet.figures in
-    let after = c.next-record.new.self in
+    let after = c.next_record.new.self in
     let n : Nexts c.lines.reader (Ok (Some line)) after = search rules in
     record {
       fills_its_columns = n.1.fills_its_columns;
