@@ -8,7 +8,7 @@ use Rattle.filed_pages.proofs.page_rows.Goals as goal
 pub loop-project-preserved : goal.loop-project-preserved
 loop-project-preserved c =
     let item = c.project-item.result in
-    let row = c.page-row.ensures ∙ ap (λ p. page_line (priced_row p)) c.project-item.is in
+    let row = c.page_row.ensures ∙ ap (λ p. page_line (priced_row p)) c.project-item.is in
     c.push.ensures.1 ∙ pushed_more priced_row page_line c.args.projects.now c.loop-project.project-index item (omega arith) _ _ c.requires c.loop-project.invariant row
 
 pub returns : goal.returns

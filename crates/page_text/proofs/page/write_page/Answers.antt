@@ -16,10 +16,10 @@ unfolding page_text
 returns c =
     let rows = rows_of c.args.rows.now in
     let before = c.args.bytes.now in
-    let end = c.write-lines-end.result in
-    let was = c.write-lines-end.new.bytes in
-    let lines = subst (λ ls. Gives (printed (flat_map line_text ls) before) end was) c.in_use.ensures.rows c.write-lines-end.ensures.text in
-    let sums = subst (λ l. Gives (printed (line_text l) (take (length was - end) (drop end was))) c.write.result c.write.new.bytes) c.sums-line.ensures c.write.ensures.text in
+    let end = c.write_lines-end.result in
+    let was = c.write_lines-end.new.bytes in
+    let lines = subst (λ ls. Gives (printed (flat_map line_text ls) before) end was) c.in_use.ensures.rows c.write_lines-end.ensures.text in
+    let sums = subst (λ l. Gives (printed (line_text l) (take (length was - end) (drop end was))) c.write.result c.write.new.bytes) c.sums_line.ensures c.write.ensures.text in
     let outcome = subst (λ text. Gives (printed text before) (end + c.write.result) (put_mid end (length was - end) was c.write.new.bytes)) (flat_map_more line_text [] rows (sums_of rows))
     (printed_next before was c.write.new.bytes (flat_map line_text rows) (line_text (sums_of rows)) end c.write.result lines sums) in
     let few : length rows ≤ 64 = omega arith in

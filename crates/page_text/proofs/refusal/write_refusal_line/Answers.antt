@@ -13,8 +13,8 @@ returns c =
     let before = c.args.bytes.now in
     let was = set before 0 82 in
     let letter = printed_byte before before [] 0 82 (omega arith) (refl, refl) in
-    let numbers = subst (λ fs. Gives (printed (fields_text fs ++ newline) (take (length was - 1) (drop 1 was))) c.write-ended.result c.write-ended.new.bytes) c.refusal_fields.ensures c.write-ended.ensures.text in
-    let outcome = printed_next before was c.write-ended.new.bytes (82 ∷ []) (fields_text (refusal_fields c.args.line c.args.number) ++ newline) 1 c.write-ended.result letter numbers in
+    let numbers = subst (λ fs. Gives (printed (fields_text fs ++ newline) (take (length was - 1) (drop 1 was))) c.write_ended.result c.write_ended.new.bytes) c.refusal_fields.ensures c.write_ended.ensures.text in
+    let outcome = printed_next before was c.write_ended.new.bytes (82 ∷ []) (fields_text (refusal_fields c.args.line c.args.number) ++ newline) 1 c.write_ended.result letter numbers in
     record {
       outcome = outcome;
       reads_back = subst (RefusalReadsBack c.args.line c.args.number) (sym outcome.1) (refusal_reads_back c.args.line c.args.number _ (omega arith) (omega arith));

@@ -5,6 +5,6 @@ use Rattle.page_text.proofs.field.writing.write_ended.Goals as goal
 
 pub returns : goal.returns
 returns c = record {
-  text = printed_byte c.args.bytes.now c.write-fields-end.new.bytes (fields_text (map field_of c.args.fields.now)) c.write-fields-end.result 10 (omega arith) c.write-fields-end.ensures.text;
+  text = printed_byte c.args.bytes.now c.write_fields-end.new.bytes (fields_text (map field_of c.args.fields.now)) c.write_fields-end.result 10 (omega arith) c.write_fields-end.ensures.text;
   columns = omega arith;
 }

@@ -7,27 +7,27 @@ use Rattle.columns.specs.Texts.{width_of}
 use Rattle.columns.proofs.Widths.{right_justified_fills}
 use Rattle.page_text.proofs.Columns.{accepted_there, wide_enough}
 use Rattle.page_text.proofs.field.writing.write_field.Goals as goal
-use Rattle.page_text.proofs.field.writing.write_field.Goals.{After-write-number}
+use Rattle.page_text.proofs.field.writing.write_field.Goals.{After-write_number}
 
-narrow : (c : After-write-number) → width_of c.args.field.now.number ≤ c.args.field.now.columns
+narrow : (c : After-write_number) → width_of c.args.field.now.number ≤ c.args.field.now.columns
 narrow c = let f = c.args.field.now in wide_enough f.columns f.number f.two_columns f.fits
 
 -- the number is written into its columns
-wrote : (c : After-write-number) → (c.write-number.result ≡ Ok tt) × (c.write-number.new.field ≡ right_justified c.args.field.now.columns c.args.field.now.number)
+wrote : (c : After-write_number) → (c.write_number.result ≡ Ok tt) × (c.write_number.new.field ≡ right_justified c.args.field.now.columns c.args.field.now.number)
 wrote c =
     let f = c.args.field.now in
     let fits : SFits w64 f.number = search rules in
     let number : to_z w128 (of_z w128 c.from.result) ≡ f.number = omega (arith, ints) in
-    accepted_there f.columns f.number (take f.columns c.args.bytes.now) c.write-number.new.field c.write-number.result
+    accepted_there f.columns f.number (take f.columns c.args.bytes.now) c.write_number.new.field c.write_number.result
     (length-take-le f.columns c.args.bytes.now c.requires) (narrow c)
-    (subst (λ n. Gives (written (take f.columns c.args.bytes.now) n) c.write-number.result c.write-number.new.field) number c.write-number.ensures)
+    (subst (λ n. Gives (written (take f.columns c.args.bytes.now) n) c.write_number.result c.write_number.new.field) number c.write_number.ensures)
 
 pub returns : goal.returns
 returns c =
     let f = c.args.field.now in
-    let before = (goal.at.returns c).After-write-number in
+    let before = (goal.at.returns c).After-write_number in
     let long = right_justified_fills f.columns f.number (narrow before) in
     record { text = (sym long, rw (long, (wrote before).1)); columns = refl }
 
 pub unwrap-requires : goal.unwrap-requires
-unwrap-requires c = ap is_ok (wrote (goal.at.unwrap-requires c).After-write-number).0
+unwrap-requires c = ap is_ok (wrote (goal.at.unwrap-requires c).After-write_number).0

@@ -14,17 +14,17 @@ left c =
     ∙ ap (λ f. fields_width (field_of f ∷ map field_of rest)) (sym c.field-item.is)
     ∙ sum_by-cons (λ f. f.columns) (field_of c.field-item.result) (map field_of rest)
 
-pub write-field-at-requires : goal.write-field-at-requires
-write-field-at-requires c = let l = left (goal.at.write-field-at-requires c).After-field-item in rw (take_rest, length-drop) (omega arith)
+pub write_field-at-requires : goal.write_field-at-requires
+write_field-at-requires c = let l = left (goal.at.write_field-at-requires c).After-field-item in rw (take_rest, length-drop) (omega arith)
 
-pub overflow-add-at : goal.overflow-add-at
-overflow-add-at c = let l = left (goal.at.overflow-add-at c).After-field-item in search rules
+pub overflow_add-at : goal.overflow_add-at
+overflow_add-at c = let l = left (goal.at.overflow_add-at c).After-field-item in search rules
 
 pub loop-field-preserved : goal.loop-field-preserved
 loop-field-preserved c =
     let l = left (goal.at.loop-field-preserved c).After-field-item in (
-      printed_more field_text field_of c.args.fields.now c.loop-field.field-index c.args.bytes.now c.loop-field.bytes c.write-field-at.new.bytes c.loop-field.at c.write-field-at.result c.field-item.result
-          c.loop-field-test.true c.field-item.is c.loop-field.invariant.0 c.write-field-at.ensures.text,
+      printed_more field_text field_of c.args.fields.now c.loop-field.field-index c.args.bytes.now c.loop-field.bytes c.write_field-at.new.bytes c.loop-field.at c.write_field-at.result c.field-item.result
+          c.loop-field-test.true c.field-item.is c.loop-field.invariant.0 c.write_field-at.ensures.text,
       omega arith,
     )
 
