@@ -1,5 +1,6 @@
 //! The worked cases, proved as one table about the definitions that the contracts cite.
 #![tactic(auto)]
+
 ghost use Rattle.cases.specs.Table.{WorkedCases};
 ghost use Rattle.std.specs.Prelude.{◌≡◌};
 

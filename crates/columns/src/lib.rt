@@ -1,6 +1,7 @@
 //! Numbers in columns: reading a right-justified number from its columns, and writing one into
 //! them. Both take columns of any width.
 #![tactic(auto)]
+
 mod reading;
 mod refusal;
 #[cfg(test)]

@@ -1,5 +1,6 @@
 //! The pages of a filing as text: one call reads the file, works its pages and writes the text.
 #![tactic(auto)]
+
 ghost use Rattle.std.specs.Prelude.{◌≡◌, ◌≤◌, map, length};
 ghost use Rattle.filing.specs.Rows.{row_of as priced_row};
 ghost use Rattle.filed_pages.specs.Texts.{filing_text, page_line};

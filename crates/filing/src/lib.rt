@@ -1,5 +1,6 @@
 //! A filing read line by line: a template's name, the figures of page 1 and the projects of page 2.
 #![tactic(auto)]
+
 mod fields;
 mod filing;
 mod pages;

@@ -1,6 +1,7 @@
 //! The printed pages as text: a line for each priced project and the line of the sums, or the line
 //! of a refusal, at the start of a fixed run of bytes.
 #![tactic(auto)]
+
 mod field;
 mod line;
 mod page;

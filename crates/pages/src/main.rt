@@ -1,4 +1,5 @@
 #![tactic(auto)]
+
 use filed_pages::write_pages;
 use std::io;
 use std::io::{Read, Write};

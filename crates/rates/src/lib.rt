@@ -1,6 +1,7 @@
 //! Rate lists: for each month a rate or nothing. The flat list, the quarter list, the holding
 //! list over any list, the lists that a line of text can name, and the factor of a year.
 #![tactic(auto)]
+
 mod factors;
 mod flat_list;
 mod holding_list;

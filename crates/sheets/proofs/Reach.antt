@@ -1,5 +1,5 @@
 -- How far the columns of a priced project reach.
-use Rattle.std.proofs.Common.{◌≡◌, ◌*◌, ◌≤◌, true, ℤ, pos, ◌*ℤ◌, nat_abs, IfOk, Ok, Result, sym, subst, arith}
+use Rattle.std.proofs.Common.{◌≡◌, ◌≤◌, true, ℤ, pos, ◌*ℤ◌, nat_abs, IfOk, Ok, Result, sym, subst, arith}
 use Rattle.std.proofs.lemmas.Int.{ints}
 use Rattle.amounts.proofs.Laws.{rounded_within}
 use Rattle.amounts.proofs.Products.{product_within}

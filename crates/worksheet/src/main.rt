@@ -1,4 +1,5 @@
 #![tactic(auto)]
+
 mod example;
 mod filed;
 mod layout;
