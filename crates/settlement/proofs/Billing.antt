@@ -34,7 +34,7 @@ module _ (t : Tally) (b : BookView) (pair : Pair) (kwh : ℕ) (s : Sound t b) (p
       let before = a.balance in
       record {
         years = a.years;
-        held = λ q. reading_at_noted t.year pair kwh q t.metered.readings ∙ ap (cond (same_pair q pair) (Some kwh)) (a.held q);
+        held = λ q. reading_at_noted t.year pair kwh q t.metered.readings ∙ ap (cond (same_pair pair q) (Some kwh)) (a.held q);
         rate = a.rate;
         early = before_noted (first_free b.state t.year) t.year pair kwh t.metered.readings (omega (arith, after_year b.state t.year posted)) a.early;
         balance = omega (arith, ints, noted);

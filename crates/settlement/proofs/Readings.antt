@@ -25,7 +25,7 @@ noted_charges rates year pair kwh (r ∷ rs) =
     (λ (e : is_for year pair r ≡ false). simp e (omega (arith, ints, rest)))
     (cases_Bool (is_for year pair r))
 
-pub reading_at_noted : (year : ℕ) (pair : Pair) (kwh : ℕ) (q : Pair) (rs : List Reading) → reading_at year q (with_reading year pair kwh rs) ≡ cond (same_pair q pair) (Some kwh) (reading_at year q rs)
+pub reading_at_noted : (year : ℕ) (pair : Pair) (kwh : ℕ) (q : Pair) (rs : List Reading) → reading_at year q (with_reading year pair kwh rs) ≡ cond (same_pair pair q) (Some kwh) (reading_at year q rs)
 reading_at_noted year pair kwh q [] = grind (arith, nat_tests)
 reading_at_noted year pair kwh q (r ∷ rs) =
     let rest = reading_at_noted year pair kwh q rs in
