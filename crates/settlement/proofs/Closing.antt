@@ -1,5 +1,5 @@
 -- A close keeps the tally and the book sound, and its interest is fair.
-use Rattle.std.proofs.Common.{◌≡◌, ℕ, ◌+◌, ◌<◌, ◌≤◌, true, List, [], ◌∷◌, map, ℤ, pos, ◌+ℤ◌, ◌-ℤ◌, ◌*ℤ◌, ◌<ℤ◌, Some, None, Ok, Option, unwrap_or, sym, refl, ap, ◌∙◌, arith}
+use Rattle.std.proofs.Common.{◌≡◌, ℕ, ◌+◌, ◌≤◌, true, List, [], ◌∷◌, map, ℤ, pos, ◌+ℤ◌, ◌-ℤ◌, ◌*ℤ◌, ◌<ℤ◌, Some, None, Ok, Option, unwrap_or, sym, refl, ap, ◌∙◌, arith}
 use Rattle.std.proofs.lemmas.Int.{ints}
 use Rattle.std.proofs.lemmas.Bool.{and_parts}
 use Rattle.std.specs.Option.{option_map}
@@ -7,7 +7,7 @@ use Rattle.rates.specs.Factor.{sum_of}
 use Rattle.rates.specs.Rates.{january}
 use Rattle.settlement.specs.declared.state.State.{State}
 use Rattle.settlement.specs.declared.state.State.TheVariants.{Draft, Posted}
-use Rattle.settlement.specs.Rules.{Figures, Terms, cents, column_16, difference, figures, interest, interest_scale, nothing_due, settled, share, sum_over, true_up}
+use Rattle.settlement.specs.Rules.{Figures, Terms, cents, column_16, difference, figures, interest, interest_scale, nothing_due, settled, share, sum_over}
 use Rattle.settlement.specs.Books.{BookView, RowView, all_rows, column_of, is_posted, sum_of_paid, total_of}
 use Rattle.settlement.specs.Closing.{Lists, close_questions, closed, closed_book, closed_row, figures_of, has_its_share, terms_at}
 use Rattle.settlement.specs.Balance.{EachRow, InterestIsFair, difference_in, interest_borne}

@@ -1,5 +1,5 @@
 -- A post keeps the tally and the book sound.
-use Rattle.std.proofs.Common.{◌≡◌, ℕ, ◌+◌, ◌<◌, ◌≤◌, true, eqb, ℤ, pos, ◌*ℤ◌, ◌<ℤ◌, Ok, refl, ◌∙◌, arith}
+use Rattle.std.proofs.Common.{◌≡◌, ℕ, ◌+◌, ◌≤◌, true, eqb, ℤ, pos, ◌*ℤ◌, ◌<ℤ◌, Ok, refl, ◌∙◌, arith}
 use Rattle.std.proofs.lemmas.Int.{ints, by_lt_z}
 use Rattle.std.proofs.lemmas.Bool.{cond-true, eq-eqb}
 use Rattle.amounts.proofs.Laws.{rounds}

@@ -3,6 +3,7 @@
 //! the proof of the law in proofs/. The code is only the types that the definitions share with
 //! the book.
 #![tactic(auto)]
+
 mod refusal;
 mod row_answer;
 mod state;

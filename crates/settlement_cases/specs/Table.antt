@@ -1,5 +1,5 @@
 -- The worked cases of the book: each says what the definitions of settlement give for figures worked by hand.
-use Rattle.std.specs.Prelude.{◌≡◌, ℕ, ◌<◌, [], ◌∷◌, ℤ, pos, neg_ℤ, Some, None, Ok}
+use Rattle.std.specs.Prelude.{◌≡◌, ℕ, [], ◌∷◌, ℤ, pos, neg_ℤ, Some, None, Ok}
 use Rattle.journals.specs.Journal.{holding}
 use Rattle.rates.specs.Factor.{interest_months}
 use Rattle.rates.specs.Given.{flat}

@@ -1,5 +1,6 @@
 //! The worked cases of the book, proved as one table about the definitions of settlement.
 #![tactic(auto)]
+
 ghost use Rattle.settlement_cases.specs.Table.{SettledCases};
 ghost use Rattle.std.specs.Prelude.{◌≡◌};
 
