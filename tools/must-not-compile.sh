@@ -7,25 +7,21 @@ work=$(mktemp -d)
 trap 'rm -rf "$work"' EXIT
 mkdir -p "$work/crates/attempt/src"
 cp -r "$root/crates/amounts" "$root/crates/sheets" "$work/crates/"
-rm -rf "$work"/crates/*/must-fail
+rm -rf "$work"/crates/*/must-fail "$work"/crates/*/out
 printf 'amounts:\nsheets: amounts\nattempt: sheets\n' > "$work/crates.txt"
 
 failed=0
 # attempt NAME refused|accepted BODY
 attempt() {
     cat > "$work/crates/attempt/src/lib.rt" <<RT
-use sheets::AttachmentCc;
-use sheets::AttachmentCcTemplate;
-use sheets::CcLine;
-use sheets::Columns;
-use sheets::OpenSheet;
-use sheets::Project;
-use sheets::Refusal;
-use sheets::WorkedSheet;
+use sheets::{AttachmentCc, CcLine, Columns, OpenSheet, Project, Refusal, WorkedSheet};
 
 $3
+
+#[test]
+fn compiles() {}
 RT
-    if (cd "$work" && rt mir attempt > "$work/log" 2>&1); then answer=accepted; else answer=refused; fi
+    if (cd "$work/crates/attempt" && rt try --test > "$work/log" 2>&1); then answer=accepted; else answer=refused; fi
     error=$(grep -m 1 -o 'error\[[a-zA-Z0-9-]*\]: [^:]*' "$work/log" || true)
     if [ "$answer" = "$2" ]; then
         echo "ok: $1 is $answer${error:+, $error}"
