@@ -3,7 +3,7 @@ use Rattle.std.proofs.Common.{◌≡◌, ℕ, zero, suc, ◌+◌, ◌-◌, ◌*�
 use Rattle.std.proofs.lemmas.Slice.Eq.{bytes_eq-Decides}
 use Rattle.std.proofs.lemmas.List.{append-nil, drop_all, drop-drop, get_or-take, length-append, length-drop, length-replicate, length-take-le, nil_from_length, take-append-drop, take_more, take-take}
 use Rattle.std.proofs.lemmas.Bool.{and_parts, eqb-true}
-use Rattle.std.specs.List.{AllByRecursion as All}
+use Rattle.std.specs.List.{AllByRecursion}
 use Rattle.std.specs.Str.{bytes_eq}
 use Rattle.columns.proofs.Laws.{undoes_writing}
 use Rattle.columns.specs.Fields.{after_spaces, reading}
@@ -172,7 +172,7 @@ module _ (line : List ℕ) (is_whole : whole line ≡ true) where
       let newline : get_or line 56 0 ≡ 10 = eqb-true _ _ (and_parts (eqb (get_or line 56 0) 10) (without 10 (take 56 line)) is_whole).0 in
       (h.0, h.1, ap (λ x. x ++ (10 ∷ [])) (sym h.2) ∙ ap (λ b. take 56 line ++ (b ∷ [])) (sym newline) ∙ sym (take_more line 56 0 (omega (arith, whole_is_long line is_whole))))
 
-from_held : {L : Type 0} (t : Rules L) (n : ℕ) (stage : Stage) (lines : List (List ℕ)) (v : Filed) → from t n stage lines ≡ Ok v → All HeldLine lines
+from_held : {L : Type 0} (t : Rules L) (n : ℕ) (stage : Stage) (lines : List (List ℕ)) (v : Filed) → from t n stage lines ≡ Ok v → AllByRecursion HeldLine lines
 from_held t n stage [] v e = tt
 from_held t n stage (line ∷ lines) v e =
     let taken = then_ok (at n (line_taken t stage line)) _ v e in
@@ -187,13 +187,13 @@ filing_ok a (Ok f) v e = (f, refl)
 filing_ok a (Err why) v e = absurd (let z : ◌≡◌ {A = ℕ} 0 1 = cc in omega arith)
 
 module _ (line : List ℕ) (long : length line ≡ 56) (is : get_or line 0 0 ≡ 84) (lines : List (List ℕ)) (v : Attachment × Filed) where
-  sheet_held : {L : Type 0} (t : Rules L) (a : Attachment) (name label : List ℕ) → columns_from 2 4 line ≡ name → label_in name ≡ Ok label → filing_of a (sheet_filed t line lines) ≡ Ok v → Held line × All HeldLine lines
+  sheet_held : {L : Type 0} (t : Rules L) (a : Attachment) (name label : List ℕ) → columns_from 2 4 line ≡ name → label_in name ≡ Ok label → filing_of a (sheet_filed t line lines) ≡ Ok v → Held line × AllByRecursion HeldLine lines
   sheet_held t a name label named_so labelled e =
       let f = filing_ok a (sheet_filed t line lines) v e in
       let b = unless_ok (blank (columns_from 5 56 line)) (at_line 1 MalformedField) (from t 2 (entering no_figures) lines) f.0 f.1 in
       (template_held line long label is (ap label_in named_so ∙ labelled) b.0, from_held t 2 (entering no_figures) lines f.0 b.1)
 
-  named_held : filed_under line lines ≡ Ok v → Held line × All HeldLine lines
+  named_held : filed_under line lines ≡ Ok v → Held line × AllByRecursion HeldLine lines
   unfolding after_spaces
   named_held e =
       let name = columns_from 2 4 line in
@@ -204,7 +204,7 @@ module _ (line : List ℕ) (long : length line ≡ 56) (is : get_or line 0 0 ≡
       sheet_held cc_rules cc_filing _ (codes "CC") ((bytes_eq-Decides name (codes " CC")).0 o.0) refl o.1)
       (either_ok (bytes_eq name (codes " MM")) _ _ v e)
 
-lines_held : (lines : List (List ℕ)) (v : Attachment × Filed) → filed_lines lines ≡ Ok v → All HeldLine lines
+lines_held : (lines : List (List ℕ)) (v : Attachment × Filed) → filed_lines lines ≡ Ok v → AllByRecursion HeldLine lines
 lines_held [] v e = absurd (let z : ◌≡◌ {A = ℕ} 0 1 = cc in omega arith)
 lines_held (line ∷ lines) v e =
     let w = unless_ok (whole line) (at_line 1 NotALine) (unless (eqb (get_or line 0 0) 84) (at_line 1 LetterOutOfPlace) (filed_under (take 56 line) lines)) v e in
@@ -227,7 +227,7 @@ lines_rejoined : (file : List ℕ) → rejoined (lines_of file) ≡ file
 unfolding lines_of
 lines_rejoined file = cut_rejoined (line_count file) file (omega arith)
 
-all_records : (lines : List (List ℕ)) → All HeldLine lines → (rs : List FilingRecord) × (map (λ line. record_on (take 56 line)) lines ≡ map Ok rs) × (all_written rs ≡ rejoined lines)
+all_records : (lines : List (List ℕ)) → AllByRecursion HeldLine lines → (rs : List FilingRecord) × (map (λ line. record_on (take 56 line)) lines ≡ map Ok rs) × (all_written rs ≡ rejoined lines)
 all_records [] h = ([], refl, refl)
 all_records (line ∷ lines) h =
     let rest = all_records lines h.1 in

@@ -4,7 +4,7 @@ use Rattle.std.proofs.ByRecursion.{All-get_or, All-take, All-weaker}
 use Rattle.std.proofs.lemmas.List.{drop_at, drop-drop, drop_more, ext_get_or, get_or_append_left, get_or_at, get_or_default, get_or-map, length-append, length-map, length_push, length-take-le, take-append-drop, take_at}
 use Rattle.std.proofs.lemmas.List.Sums.{sum_by-cons}
 use Rattle.std.proofs.lemmas.Bool.{lt-ltb}
-use Rattle.std.specs.List.{flat_map, AllByRecursion as All}
+use Rattle.std.specs.List.{flat_map, AllByRecursion}
 use Rattle.columns.specs.Fields.{in_range, reading, right_justified}
 use Rattle.columns.specs.Texts.{width_of}
 use Rattle.columns.proofs.Laws.{held_is_read}
@@ -42,12 +42,12 @@ from_member text xs k x rest n short e long =
     ∙ ap (λ y. (text y ++ flat_map text (drop (k + 1) xs)) ++ rest) (sym e)
     ∙ append_assoc (text x) (flat_map text (drop (k + 1) xs)) rest
 
-fields_length : (fs : List PageField) → All WideEnough fs → length (fields_text fs) ≡ fields_width fs
+fields_length : (fs : List PageField) → AllByRecursion WideEnough fs → length (fields_text fs) ≡ fields_width fs
 fields_length [] h = refl
 fields_length (f ∷ fs) h = length-append (field_text f) (fields_text fs) ∙ omega (arith, right_justified_fills f.columns f.number h.0, fields_length fs h.1, sum_by-cons (λ f. f.columns) f fs)
 
 -- field k, read from its columns
-field_reads : (fs : List PageField) (k : ℕ) (f : PageField) (rest : List ℕ) → All WideEnough fs → k < length fs → f ≡ get_or fs k f → nat_abs f.number ≤ 7680000000000 →
+field_reads : (fs : List PageField) (k : ℕ) (f : PageField) (rest : List ℕ) → AllByRecursion WideEnough fs → k < length fs → f ≡ get_or fs k f → nat_abs f.number ≤ 7680000000000 →
     reading (take f.columns (drop (fields_width (take k fs)) (fields_text fs ++ rest))) ≡ Ok f.number
 field_reads fs k f rest wide short e small =
     let here : WideEnough f = subst WideEnough (sym e) (All-get_or WideEnough fs k f short wide) in
@@ -61,14 +61,14 @@ amount_reads return_charge l rest w = field_reads (line_fields l) 2 (in_columns 
 amount_reads depreciation l rest w = field_reads (line_fields l) 3 (in_columns 14 l.depreciation_expense) rest (fields_wide_enough l w) (omega arith) refl (w.amounts depreciation)
 amount_reads requirement l rest w = field_reads (line_fields l) 4 (in_columns 14 l.annual_revenue_requirement) rest (fields_wide_enough l w) (omega arith) refl (w.amounts requirement)
 
-lines_length : (ls : List PageLine) → All (Within 7680000000000) ls → length (flat_map line_text ls) ≡ 69 * length ls
+lines_length : (ls : List PageLine) → AllByRecursion (Within 7680000000000) ls → length (flat_map line_text ls) ≡ 69 * length ls
 unfolding line_text
 lines_length [] h = refl
 lines_length (l ∷ ls) h =
     length-append (line_text l) (flat_map line_text ls)
     ∙ omega (arith, length-append (fields_text (line_fields l)) newline, fields_length (line_fields l) (fields_wide_enough l h.0), lines_length ls h.1)
 
-line_reads : (ls : List PageLine) (rest : List ℕ) (k : ℕ) (l : PageLine) → All (Within 7680000000000) ls → k < length ls → l ≡ get_or ls k l → LineReadsAs (flat_map line_text ls ++ rest) k l
+line_reads : (ls : List PageLine) (rest : List ℕ) (k : ℕ) (l : PageLine) → AllByRecursion (Within 7680000000000) ls → k < length ls → l ≡ get_or ls k l → LineReadsAs (flat_map line_text ls ++ rest) k l
 unfolding line_text
 line_reads ls rest k l h short e =
     let w : Within 7680000000000 l = subst (Within 7680000000000) (sym e) (All-get_or (Within 7680000000000) ls k l short h) in
@@ -85,7 +85,7 @@ total_of_column : (a : Amount) (start : ℤ) (rows : List PageLine) → fold (λ
 total_of_column a start [] = refl
 total_of_column a start (r ∷ rs) = total_of_column a (start +ℤ amount_in a r) rs
 
-pub page_reads_back : (rows : List PageLine) (rest : List ℕ) → length rows ≤ 64 → All (Within 120000000000) rows → PageReadsBack rows (page_text rows ++ rest)
+pub page_reads_back : (rows : List PageLine) (rest : List ℕ) → length rows ≤ 64 → AllByRecursion (Within 120000000000) rows → PageReadsBack rows (page_text rows ++ rest)
 unfolding page_text
 page_reads_back rows rest few h =
     let text = page_text rows ++ rest in
@@ -106,14 +106,14 @@ page_reads_back rows rest few h =
           let one : get_or amounts k (pos 0) ≡ amount_in a row = cc in
           one ∙ sym (get_or-map (amount_in a) rows k (sums_of rows) (pos 0) (omega arith))) in
           last.amounts_are_read a ∙ ap Ok (amount_sum a rows ∙ total_of_column a (pos 0) rows ∙ ap total (sym same));
-      no_number_is_too_wide = All-weaker (Within 7680000000000) (λ l. All WideEnough (line_fields l)) fields_wide_enough (page_lines rows) all;
+      no_number_is_too_wide = All-weaker (Within 7680000000000) (λ l. AllByRecursion WideEnough (line_fields l)) fields_wide_enough (page_lines rows) all;
     }
 
 pub refusal_reads_back : (line number : ℕ) (rest : List ℕ) → line < 2 ^ 16 → number < 2 ^ 16 → RefusalReadsBack line number (refusal_text line number ++ rest)
 unfolding refusal_text
 refusal_reads_back line number rest short small =
     let fields = refusal_fields line number in
-    let wide : All WideEnough fields = (wide_enough 11 (pos line) (omega arith) (omega arith), (wide_enough 12 (pos number) (omega arith) (omega arith), tt)) in
+    let wide : AllByRecursion WideEnough fields = (wide_enough 11 (pos line) (omega arith) (omega arith), (wide_enough 12 (pos number) (omega arith) (omega arith), tt)) in
     let start : (fields_text fields ++ newline) ++ rest ≡ fields_text fields ++ (newline ++ rest) = append_assoc (fields_text fields) newline rest in
     record {
       begins_with_R = refl;

@@ -1,6 +1,6 @@
 -- What a printed text reads as. Line 0 is the first.
 use Rattle.std.specs.Prelude.{◌≡◌, ℕ, ◌+◌, ◌*◌, ◌<◌, ◌≤◌, List, [], ◌∷◌, length, take, drop, ℤ, pos, ◌+ℤ◌, Ok, fold, Result, slice_index_or}
-use Rattle.std.specs.List.{AllByRecursion as All}
+use Rattle.std.specs.List.{AllByRecursion}
 use Rattle.columns.specs.Fields.{reading}
 use Rattle.columns.specs.Texts.{width_of}
 use Rattle.columns.specs.declared.refusal.Refusal.{Refusal}
@@ -52,11 +52,11 @@ pub record PageReadsBack (rows : List PageLine) (text : List ℕ) : Type 0 where
   pub last_line_has_project_0 : project_read text (length rows) ≡ Ok (pos 0)
   pub last_line_totals_the_lines_before : (a : Amount) (amounts : List ℤ) → length amounts ≡ length rows → ((k : ℕ) → k < length rows → amount_read a text k ≡ Ok (slice_index_or amounts k (pos 0))) →
       amount_read a text (length rows) ≡ Ok (total amounts)
-  pub no_number_is_too_wide : All (λ l. All WideEnough (line_fields l)) (page_lines rows)
+  pub no_number_is_too_wide : AllByRecursion (λ l. AllByRecursion WideEnough (line_fields l)) (page_lines rows)
 
 -- the line number ends in column 12 and the refusal's number in column 24
 pub record RefusalReadsBack (line number : ℕ) (text : List ℕ) : Type 0 where
   pub begins_with_R : take 1 text ≡ 82 ∷ []
   pub line_is_read : reading (take 11 (drop 1 text)) ≡ Ok (pos line)
   pub number_is_read : reading (take 12 (drop 12 text)) ≡ Ok (pos number)
-  pub no_number_is_too_wide : All WideEnough (refusal_fields line number)
+  pub no_number_is_too_wide : AllByRecursion WideEnough (refusal_fields line number)

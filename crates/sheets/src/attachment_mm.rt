@@ -88,7 +88,7 @@ impl Template for AttachmentMm {
         let depreciation = r GeneralDepreciation in
         let taxes = r OtherTaxes in
         let income = r IncomeTaxes in
-        let on-base = r ReturnOnRateBase in
+        let on_base = r ReturnOnRateBase in
         record {
           om = record { adjusted = omega (arith, ints); base = omega arith };
           expense = record { om = omega (arith, ints); depreciation = omega arith; taxes = omega arith; base = omega arith };
