@@ -1,38 +1,14 @@
 -- What holding does, from the latest of some months.
-use Rattle.std.proofs.Common.{◌≡◌, ℕ, zero, suc, ◌+◌, ◌-◌, ◌<◌, ◌≤◌, true, ◌⊎◌, is_some, Some, None, Option, refl, inl, inr, ⊎_elim, arith}
+use Rattle.std.proofs.Common.{◌≡◌, ℕ, zero, suc, ◌+◌, ◌-◌, ◌<◌, ◌≤◌, true, ◌⊎◌, is_some, Some, None, Option, refl, sym, ◌∙◌, inl, inr, ⊎_elim, arith}
 use Rattle.std.proofs.lemmas.Bool.{cases_lt}
+use Rattle.std.proofs.iter.runs.Sources.{nat_range_steps_back, range_runs_back}
+use Rattle.std.specs.Iterator.Runs.{Run, AllItemsGive, IsFirstToGive, IsIdenticalRun}
+use Rattle.std.specs.Prelude.{MatchOption, IsTrue, option_map}
+use Rattle.std.specs.Fn.{Called}
+use denote.Param.Members.{Mut}
 use Rattle.rates.specs.Rates.{Rates, Has}
 use Rattle.rates.specs.Holding.{Holds, held, latest_before, or_else}
 use Rattle.rates.proofs.Sums.{last_or_before}
-
--- no month below 0 is asked
-pub months_there_are : (rates : Rates) (month count : ℕ) → latest_before rates month (month - (month - count)) ≡ latest_before rates month count
-unfolding latest_before
-months_there_are rates month zero = let none : month - (month - 0) ≡ 0 = omega arith in rw none
-months_there_are rates zero (suc n) = let none : 0 - (0 - suc n) ≡ 0 = omega arith in rw none
-months_there_are rates (suc month) (suc n) =
-    let more : suc month - (suc month - suc n) ≡ suc (month - (month - n)) = omega arith in
-    rw (more, months_there_are rates month n)
-
--- the months before any month, the last of them first
-abbrev pub LastFirst : Rates → ℕ → Type 0
-LastFirst rates first = (month : ℕ) → first < month → latest_before rates month (month - first) ≡ or_else (rates (month - 1)) (latest_before rates (month - 1) (month - 1 - first))
-
-pub last_first : (rates : Rates) (first : ℕ) → LastFirst rates first
-unfolding latest_before
-last_first rates first zero some = absurd (omega arith)
-last_first rates first (suc month) some =
-    let before : suc month - 1 ≡ month = omega arith in
-    let more : suc month - first ≡ suc (month - first) = omega arith in
-    rw (before, more)
-
--- no month is left
-abbrev pub NoneLeft : Rates → ℕ → Type 0
-NoneLeft rates first = (month : ℕ) → month ≤ first → latest_before rates month (month - first) ≡ None
-
-pub none_left : (rates : Rates) (first : ℕ) → NoneLeft rates first
-unfolding latest_before
-none_left rates first month past = let none : month - first ≡ 0 = omega arith in rw none
 
 or_else_later : (a b : Option ℕ) → is_some b ≡ true → is_some (or_else a b) ≡ true
 or_else_later None b has = has
@@ -58,6 +34,12 @@ module _ (rates : Rates) where
       rw (later month earlier (omega arith)) (latest_takes month n last rate earlier (omega arith) here (λ m past short. later m past (omega arith))))
       (last_or_before before)
 
+  latest_none : (month n : ℕ) → ((earlier : ℕ) → earlier < month → month ≤ earlier + n → rates earlier ≡ None) → latest_before rates month n ≡ None
+  unfolding latest_before
+  latest_none month zero none = refl
+  latest_none zero (suc n) none = refl
+  latest_none (suc month) (suc n) none = rw (none month (omega arith) (omega arith)) (latest_none month n (λ m before near. none m (omega arith) (omega arith)))
+
   latest_covers : (month n earlier : ℕ) → earlier < month → month ≤ earlier + n → Has rates earlier → is_some (latest_before rates month n) ≡ true
   unfolding latest_before
   latest_covers zero n earlier before near has = absurd (omega arith)
@@ -76,6 +58,42 @@ module _ (rates : Rates) where
       (λ (there : is_some (latest_before rates month n) ≡ true).
       let found = latest_only month n there in (found.0, (omega arith, omega arith, found.1.2)))
       (or_else_either (rates month) (latest_before rates month n) has)
+
+is_place : (a : Option ℕ) (n : ℕ) → option_map (λ x. x) a ≡ Some n → a ≡ Some n
+is_place None n is = is
+is_place (Some x) n is = is
+
+-- p runs back over the months before a month, q is the run behind it: it has found the latest rate
+module _ {S F : Type 0} {steps : S → Option ℕ → S → Type 0} (g : Mut F (ℕ × Unit {0}) (Option ℕ)) (f : F) (p : Run steps) (q : Run nat_range_steps_back) (rates : Rates) (month count : ℕ) where
+  abbrev Back : Type 0
+  Back = IsIdenticalRun p q × (q.from.start ≡ month - count) × (q.from.end ≡ month)
+
+  abbrev Answers : Type 0
+  Answers = (x : ℕ) (r : Option ℕ) (f' : F) → Called g f (x, tt) r f' → (f' ≡ f) × (r ≡ rates x)
+
+  place_in_run : Back → (k : ℕ) → k < p.len → p.at k ≡ Some (month - 1 - k)
+  place_in_run back k short =
+      is_place (p.at k) (month - 1 - k) (rw (back.0.0.2 k, back.2) at ((range_runs_back q q.seen).3 k (rw back.0.0.0 short)))
+
+  pub latest_found : (found : Option ℕ) → Back → Answers
+      → MatchOption found (IsTrue p.whole × AllItemsGive p g f None) (λ rate. (i : ℕ) × (i < p.len) × (p.len ≡ i + 1) × IsFirstToGive p g f (Some rate) None i)
+      → found ≡ latest_before rates month count
+  latest_found None back answers ran =
+      let none = ran.1 (λ x r f' called. (answers x.0 r f' called).0) in
+      let all : q.len ≡ month - (month - count) = rw (← back.1, ← back.2) ((range_runs_back q q.seen).1 (back.0.1 ∙ ran.0)) in
+      sym (latest_none rates month count (λ earlier before near.
+      let place : month - 1 - (month - 1 - earlier) ≡ earlier = omega arith in
+      let called = rw (place_in_run back (month - 1 - earlier) (omega (arith, back.0.0.0))) at (none (month - 1 - earlier)) in
+      rw place at (sym (answers _ None f called).1)))
+  latest_found (Some rate) back answers ran =
+      let first = ran.3 (λ x r f' called. (answers x.0 r f' called).0) in
+      let within : q.len ≤ month - (month - count) = rw (← back.1, ← back.2) (range_runs_back q q.seen).0 in
+      let called = rw (place_in_run back ran.0 ran.1) at first.0 in
+      sym (latest_takes rates month count (month - 1 - ran.0) rate (omega (arith, back.0.0.0)) (omega (arith, back.0.0.0)) (sym (answers _ (Some rate) f called).1)
+      (λ later past before.
+      let place : month - 1 - (month - 1 - later) ≡ later = omega arith in
+      let called_later = rw (place_in_run back (month - 1 - later) (omega arith)) at (first.1 (month - 1 - later) (omega arith)) in
+      rw place at (sym (answers _ None f called_later).1)))
 
 pub holds : (rates : Rates) → Holds rates (held rates)
 holds rates = record {

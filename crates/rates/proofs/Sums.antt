@@ -1,24 +1,22 @@
 -- The sum of a run of months, one month at a time.
-use Rattle.std.proofs.Common.{◌≡◌, ℕ, zero, suc, ◌+◌, ◌*◌, ◌<◌, ◌≤◌, ◌⊎◌, List, [], ◌∷◌, length, Some, None, Option, refl, ap, inl, inr, ⊎_elim, add-zero, add_assoc, add-one, arith}
+use Rattle.std.proofs.Common.{◌≡◌, ℕ, zero, suc, ◌+◌, ◌-◌, ◌*◌, ◌<◌, ◌≤◌, ◌⊎◌, List, [], ◌∷◌, length, Some, None, Option, refl, sym, ap, inl, inr, ⊎_elim, add-zero, add_assoc, arith}
 use Rattle.std.proofs.lemmas.Bool.{cases_lt}
 use Rattle.rates.specs.Rates.{Rates, Within, Bounded, highest}
 use Rattle.rates.specs.Factor.{AddsUp, RatesFrom, plus, sum_of, total}
 
--- one month more
-abbrev pub OneMore : Rates → ℕ → Type 0
-OneMore rates first = (i : ℕ) → sum_of rates first (i + 1) ≡ plus (sum_of rates first i) (rates (first + i))
-
-pub one_more : (rates : Rates) (first : ℕ) → OneMore rates first
+-- no month yet
+pub none_yet : (rates : Rates) (first : ℕ) → sum_of rates first (first - first) ≡ Some 0
 unfolding sum_of
-one_more rates first i = rw add-one
+none_yet rates first = let none : first - first ≡ 0 = omega arith in rw none
 
-pub none_yet : (rates : Rates) (first : ℕ) → sum_of rates first 0 ≡ Some 0
+-- one month later
+pub month_later : (rates : Rates) (first month sum rate : ℕ) → first ≤ month → sum_of rates first (month - first) ≡ Some sum → Some rate ≡ rates month
+    → sum_of rates first (month + 1 - first) ≡ Some (sum + rate)
 unfolding sum_of
-none_yet rates first = refl
-
--- a missing month leaves no sum
-abbrev pub MissingMonth : Rates → ℕ → ℕ → Type 0
-MissingMonth rates first n = (i : ℕ) → i < n → rates (first + i) ≡ None → sum_of rates first n ≡ None
+month_later rates first month sum rate from summed has =
+    let later : month + 1 - first ≡ suc (month - first) = omega arith in
+    let here : first + (month - first) ≡ month = omega arith in
+    rw (later, here, summed, ← has)
 
 plus_none : (a : Option ℕ) → plus a None ≡ None
 plus_none None = refl
@@ -27,13 +25,19 @@ plus_none (Some x) = refl
 pub last_or_before : {i n : ℕ} → i < suc n → (i ≡ n) ⊎ (i < n)
 last_or_before {i} {n} short = ⊎_elim (λ (h : i < n). inr h) (λ (h : n ≤ i). inl (omega arith)) (cases_lt i n)
 
-pub missing_month : (rates : Rates) (first n : ℕ) → MissingMonth rates first n
+-- a missing month leaves no sum
+missing_month : (rates : Rates) (first n i : ℕ) → i < n → rates (first + i) ≡ None → sum_of rates first n ≡ None
 unfolding sum_of
 missing_month rates first zero i short missing = absurd (omega arith)
 missing_month rates first (suc n) i short missing = ⊎_elim
     (λ (here : i ≡ n). rw (← here) (rw missing (plus_none (sum_of rates first i))))
     (λ (before : i < n). rw (missing_month rates first n i before missing))
     (last_or_before short)
+
+pub no_sum : (rates : Rates) (first count month : ℕ) → first ≤ month → month < first + count → None ≡ rates month → None ≡ sum_of rates first count
+no_sum rates first count month from before missing =
+    let here : first + (month - first) ≡ month = omega arith in
+    sym (missing_month rates first count (month - first) (omega arith) (rw here (sym missing)))
 
 -- the first month, then the others
 plus_assoc : (a b c : Option ℕ) → plus (plus a b) c ≡ plus a (plus b c)
@@ -54,7 +58,8 @@ first_month rates first (suc n) =
     rw (first_month rates first n, next, plus_assoc (rates first) (sum_of rates (suc first) n) (rates (suc first + n)))
 
 pub total_of_rates : (rates : Rates) (first : ℕ) (xs : List ℕ) → RatesFrom rates first xs → sum_of rates first (length xs) ≡ Some (total xs)
-total_of_rates rates first [] all = none_yet rates first
+unfolding sum_of
+total_of_rates rates first [] all = refl
 total_of_rates rates first (x ∷ xs) all =
     let here : rates first ≡ Some x = rw add-zero at (all 0 (omega arith)) in
     let others : RatesFrom rates (suc first) xs =

@@ -1,4 +1,4 @@
-ghost use Rattle.std.specs.Prelude.{◌≡◌, ◌+◌, ◌*◌, ◌^◌, ◌≤◌};
+ghost use Rattle.std.specs.Prelude.{◌≡◌, ◌+◌, ◌*◌, ◌^◌, ◌<◌, ◌≤◌};
 ghost use Rattle.rates.specs.Rates.{january};
 ghost use Rattle.rates.specs.Factor.{AddsUp, factor_of, interest_months, sum_of};
 
@@ -9,14 +9,15 @@ const INTEREST_MONTHS: u32 = 24;
 
 /// The sum of the rates of `count` months from `first` on, or nothing if one is missing.
 fn sum_of_rates<L: RateList>(list: &L, first: u32, count: u32) -> Option<u32>
-    requires { (first + count ≤ 2 ^ 32) × (count ≤ 255) }
+    requires end { first + count < 2 ^ 32 }
+    requires few { count ≤ 255 }
     ensures value { result ≡ sum_of (L.rates list.now) first count }
     ensures adds_up { AddsUp (L.rates list.now) first count result }
 {
     let mut sum = 0;
-    for i in 0..count {
-        let rate = list.rate(first + i)?;
-        sum += rate;
+    // A loop: of a chain's `sum` into an `Option` it is not proved that a missing month leaves none.
+    for month in first..first + count {
+        sum += list.rate(month)?;
     }
     Some(sum)
 }

@@ -30,10 +30,9 @@ impl<L: RateList> RateList for HoldingList<L> {
     ghost bounded = { λ h. held_bounded (L.RateList.rates h.list) (L.RateList.bounded h.list) };
 
     fn rate(&self, month: u32) -> Option<u32> {
-        match self.list.rate(month) {
-            Some(rate) => Some(rate),
-            None => latest_rate_before(&self.list, month, HELD_MONTHS),
-        }
+        self.list
+            .rate(month)
+            .or_else(|| latest_rate_before(&self.list, month, HELD_MONTHS))
     }
 }
 
@@ -41,10 +40,7 @@ impl<L: RateList> RateList for HoldingList<L> {
 fn latest_rate_before<L: RateList>(list: &L, month: u32, count: u32) -> Option<u32>
     ensures { result ≡ latest_before (L.rates list.now) month count }
 {
-    for earlier in (month.saturating_sub(count)..month).rev() {
-        if let Some(rate) = list.rate(earlier) {
-            return Some(rate);
-        }
-    }
-    None
+    (month.saturating_sub(count)..month)
+        .rev()
+        .find_map(|earlier| list.rate(earlier))
 }

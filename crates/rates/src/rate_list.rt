@@ -21,9 +21,5 @@ pub trait RateList {
 pub(crate) fn counted_rate(rate: u32) -> Option<u32>
     ensures { result ≡ counted rate }
 {
-    if rate <= HIGHEST_RATE {
-        Some(rate)
-    } else {
-        None
-    }
+    (rate <= HIGHEST_RATE).then_some(rate)
 }

@@ -1,12 +1,12 @@
-use Rattle.std.proofs.Common.{◌≡◌, ◌*◌, ◌≤◌, Some}
-use Rattle.rates.specs.Rates.{Bounded, highest}
+use Rattle.std.proofs.Common.{◌≡◌, ◌-◌, ◌*◌, ◌≤◌, Some}
+use Rattle.rates.specs.Rates.{highest}
 use Rattle.rates.specs.Factor.{sum_of}
-use Rattle.rates.proofs.Sums.{MissingMonth, OneMore}
 use Rattle.rates.proofs.factors.sum_of_rates.Given as goal
 
--- the sum so far, and its bound
-abbrev pub invariant-loop-i : goal.invariant-loop-i
-invariant-loop-i g l =
-    let rates = g.L.RateList.rates l.list in
-    (sum_of rates l.first l.i ≡ Some l.sum) × (l.sum ≤ l.i * highest)
-    × Bounded rates × OneMore rates l.first × MissingMonth rates l.first l.count
+abbrev pub invariant-loop-month : goal.invariant-loop-month
+invariant-loop-month g l =
+    let added = l.month - l.first in
+    record {
+      sum_so_far : sum_of (g.L.RateList.rates l.list) l.first added ≡ Some l.sum;
+      within_highest : l.sum ≤ added * highest;
+    }
