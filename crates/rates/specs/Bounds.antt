@@ -1,18 +1,7 @@
--- Every list keeps its rates within the highest.
+-- Holding keeps the rates of a list within the highest.
 use Rattle.std.specs.Prelude.{ℕ, zero, suc, Some, None, Option}
-use Rattle.std.proofs.Common.{arith}
-use Rattle.std.proofs.lemmas.Bool.Decides.{nat_tests}
 use Rattle.rates.specs.Rates.{Rates, Within, Bounded, highest}
 use Rattle.rates.specs.Holding.{or_else, latest_before, held}
-use Rattle.rates.specs.Lists.{flat_rates, quarter_rates}
-use Rattle.rates.specs.declared.flat_list.FlatList.{FlatList}
-use Rattle.rates.specs.declared.quarter_list.QuarterList.{QuarterList}
-
-pub flat_bounded : (list : FlatList) → Bounded (flat_rates list)
-flat_bounded list month = grind (arith, nat_tests)
-
-pub quarter_bounded : (list : QuarterList) → Bounded (quarter_rates list)
-quarter_bounded list month = grind (arith, nat_tests)
 
 or_else_within : (a b : Option ℕ) → Within highest a → Within highest b → Within highest (or_else a b)
 or_else_within None b wa wb = wb

@@ -1,6 +1,7 @@
 ghost use Rattle.std.specs.Prelude.{◌≡◌};
 ghost use Rattle.rates.specs.Holding.{Holds, held, latest_before};
 ghost use Rattle.rates.specs.Bounds.{held_bounded};
+ghost use Rattle.std.proofs.Common.{rules};
 
 use crate::rate_list::RateList;
 
@@ -27,7 +28,7 @@ impl<L: RateList> HoldingList<L> {
 impl<L: RateList> RateList for HoldingList<L> {
     ghost rates = { λ h. held (L.RateList.rates h.list) };
 
-    ghost bounded = { λ h. held_bounded (L.RateList.rates h.list) (L.RateList.bounded h.list) };
+    ghost bounded = { Prim.search (rules, held_bounded) };
 
     fn rate(&self, month: u32) -> Option<u32> {
         self.list

@@ -1,7 +1,8 @@
 ghost use Rattle.rates.specs.Named.{named_rates};
 ghost use Rattle.rates.specs.Lists.{flat_rates, quarter_rates};
 ghost use Rattle.rates.specs.declared.named_list.NamedList.TheVariants.{Flat, Quarter, HoldingFlat, HoldingQuarter};
-ghost use Rattle.rates.specs.Bounds.{flat_bounded, quarter_bounded, held_bounded};
+ghost use Rattle.rates.specs.Bounds.{held_bounded};
+ghost use Rattle.std.proofs.Common.{rules};
 
 use crate::flat_list::FlatList;
 use crate::holding_list::HoldingList;
@@ -25,10 +26,10 @@ impl RateList for NamedList {
     ghost rates = { named_rates };
 
     ghost bounded = { elim [
-      | Flat list ↦ flat_bounded list
-      | Quarter list ↦ quarter_bounded list
-      | HoldingFlat list ↦ held_bounded (flat_rates list.list) (flat_bounded list.list)
-      | HoldingQuarter list ↦ held_bounded (quarter_rates list.list) (quarter_bounded list.list)
+      | Flat list ↦ Prim.search rules
+      | Quarter list ↦ Prim.search rules
+      | HoldingFlat list ↦ held_bounded (flat_rates list.list) (Prim.search rules)
+      | HoldingQuarter list ↦ held_bounded (quarter_rates list.list) (Prim.search rules)
     ] };
 
     fn rate(&self, month: u32) -> Option<u32> {
