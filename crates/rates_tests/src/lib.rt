@@ -4,37 +4,32 @@
 #[cfg(test)]
 mod tests {
     use rates::{FlatList, HoldingList, NamedList, QuarterList, RateList, factor};
+    use std::ops::Range;
     use std::process::Abort;
     use std::test::Fail;
 
-    // Each month from `first` to before `end` has this rate.
-    fn check_months<L: RateList>(
-        rt: &impl Abort,
-        list: &L,
-        first: u32,
-        end: u32,
-        rate: Option<u32>,
-    ) {
-        for month in first..end {
+    // Each of these months has this rate.
+    fn check_months(rt: &impl Abort, list: &impl RateList, months: Range<u32>, rate: Option<u32>) {
+        for month in months {
             assert_eq!(rt; list.rate(month), rate);
         }
     }
 
     #[test]
     fn flat_list_at_its_limit(rt: HostRuntime) {
-        check_months(&rt, &FlatList::new(0), 0, 31, Some(0));
-        check_months(&rt, &FlatList::new(100_000), 0, 31, Some(100_000));
-        check_months(&rt, &FlatList::new(100_001), 0, 31, None);
+        check_months(&rt, &FlatList::new(0), 0..31, Some(0));
+        check_months(&rt, &FlatList::new(100_000), 0..31, Some(100_000));
+        check_months(&rt, &FlatList::new(100_001), 0..31, None);
         assert_eq!(rt; FlatList::new(7).rate(4_294_967_295), Some(7));
     }
 
     #[test]
     fn quarter_list_from_quarter_0(rt: HostRuntime) -> Result<(), Fail> {
         let list = QuarterList::new(0, vec![in rt.alloc(); 100, 100_001, 100_000]?);
-        check_months(&rt, &list, 0, 3, Some(100));
-        check_months(&rt, &list, 3, 6, None);
-        check_months(&rt, &list, 6, 9, Some(100_000));
-        check_months(&rt, &list, 9, 31, None);
+        check_months(&rt, &list, 0..3, Some(100));
+        check_months(&rt, &list, 3..6, None);
+        check_months(&rt, &list, 6..9, Some(100_000));
+        check_months(&rt, &list, 9..31, None);
         Ok(())
     }
 
@@ -49,7 +44,7 @@ mod tests {
     #[test]
     fn empty_run_has_nothing_to_hold(rt: HostRuntime) -> Result<(), Fail> {
         let list = HoldingList::new(QuarterList::new(0, vec![in rt.alloc()]?));
-        check_months(&rt, &list, 0, 31, None);
+        check_months(&rt, &list, 0..31, None);
         assert_eq!(rt; factor(&list, 0), None);
         Ok(())
     }
@@ -57,15 +52,15 @@ mod tests {
     #[test]
     fn pile_of_three_holds_twice_24_months(rt: HostRuntime) -> Result<(), Fail> {
         let once = HoldingList::new(QuarterList::new(1, vec![in rt.alloc(); 40, 50]?));
-        check_months(&rt, &once, 0, 3, None);
-        check_months(&rt, &once, 3, 6, Some(40));
-        check_months(&rt, &once, 6, 33, Some(50));
-        check_months(&rt, &once, 33, 36, None);
+        check_months(&rt, &once, 0..3, None);
+        check_months(&rt, &once, 3..6, Some(40));
+        check_months(&rt, &once, 6..33, Some(50));
+        check_months(&rt, &once, 33..36, None);
         let twice = HoldingList::new(once);
-        check_months(&rt, &twice, 0, 3, None);
-        check_months(&rt, &twice, 3, 6, Some(40));
-        check_months(&rt, &twice, 6, 57, Some(50));
-        check_months(&rt, &twice, 57, 60, None);
+        check_months(&rt, &twice, 0..3, None);
+        check_months(&rt, &twice, 3..6, Some(40));
+        check_months(&rt, &twice, 6..57, Some(50));
+        check_months(&rt, &twice, 57..60, None);
         Ok(())
     }
 
