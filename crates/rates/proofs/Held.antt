@@ -1,26 +1,26 @@
 -- What holding does, from the latest of some months.
 use Rattle.std.proofs.Common.{◌≡◌, ℕ, zero, suc, ◌+◌, ◌-◌, ◌<◌, ◌≤◌, true, ◌⊎◌, is_some, Some, None, Option, refl, sym, ◌∙◌, inl, inr, ⊎_elim, arith}
-use Rattle.std.proofs.lemmas.Bool.{cases_lt}
 use Rattle.std.proofs.iter.runs.Sources.{nat_range_steps_back, range_runs_back}
 use Rattle.std.specs.Iterator.Runs.{Run, AllItemsGive, IsFirstToGive, IsIdenticalRun}
 use Rattle.std.specs.Prelude.{MatchOption, IsTrue, option_map}
 use Rattle.std.specs.Fn.{Called}
 use denote.Param.Members.{Mut}
+use Rattle.std.specs.Option.{option_or}
 use Rattle.rates.specs.Rates.{Rates, Has}
-use Rattle.rates.specs.Holding.{Holds, held, latest_before, or_else}
+use Rattle.rates.specs.Holding.{Holds, held, latest_before}
 use Rattle.rates.proofs.Sums.{last_or_before}
 
-or_else_later : (a b : Option ℕ) → is_some b ≡ true → is_some (or_else a b) ≡ true
-or_else_later None b has = has
-or_else_later (Some x) b has = refl
+option_or_later : (a b : Option ℕ) → is_some b ≡ true → is_some (option_or a b) ≡ true
+option_or_later None b has = has
+option_or_later (Some x) b has = refl
 
-or_else_first : (a b : Option ℕ) → is_some a ≡ true → is_some (or_else a b) ≡ true
-or_else_first None b has = absurd (grind arith)
-or_else_first (Some x) b has = refl
+option_or_first : (a b : Option ℕ) → is_some a ≡ true → is_some (option_or a b) ≡ true
+option_or_first None b has = absurd (grind arith)
+option_or_first (Some x) b has = refl
 
-or_else_either : (a b : Option ℕ) → is_some (or_else a b) ≡ true → (is_some a ≡ true) ⊎ (is_some b ≡ true)
-or_else_either None b has = inr has
-or_else_either (Some x) b has = inl refl
+option_or_either : (a b : Option ℕ) → is_some (option_or a b) ≡ true → (is_some a ≡ true) ⊎ (is_some b ≡ true)
+option_or_either None b has = inr has
+option_or_either (Some x) b has = inl refl
 
 module _ (rates : Rates) where
   latest_takes : (month n last rate : ℕ) → last < month → month ≤ last + n → rates last ≡ Some rate
@@ -45,8 +45,8 @@ module _ (rates : Rates) where
   latest_covers zero n earlier before near has = absurd (omega arith)
   latest_covers (suc month) zero earlier before near has = absurd (omega arith)
   latest_covers (suc month) (suc n) earlier before near has = ⊎_elim
-      (λ (same : earlier ≡ month). or_else_first (rates month) (latest_before rates month n) (rw (← same) has))
-      (λ (further : earlier < month). or_else_later (rates month) (latest_before rates month n) (latest_covers month n earlier further (omega arith) has))
+      (λ (same : earlier ≡ month). option_or_first (rates month) (latest_before rates month n) (rw (← same) has))
+      (λ (further : earlier < month). option_or_later (rates month) (latest_before rates month n) (latest_covers month n earlier further (omega arith) has))
       (last_or_before before)
 
   latest_only : (month n : ℕ) → is_some (latest_before rates month n) ≡ true → (earlier : ℕ) × ((earlier < month) × (month ≤ earlier + n) × Has rates earlier)
@@ -57,7 +57,7 @@ module _ (rates : Rates) where
       (λ (here : Has rates month). (month, (omega arith, omega arith, here)))
       (λ (there : is_some (latest_before rates month n) ≡ true).
       let found = latest_only month n there in (found.0, (omega arith, omega arith, found.1.2)))
-      (or_else_either (rates month) (latest_before rates month n) has)
+      (option_or_either (rates month) (latest_before rates month n) has)
 
 is_place : (a : Option ℕ) (n : ℕ) → option_map (λ x. x) a ≡ Some n → a ≡ Some n
 is_place None n is = is
@@ -95,21 +95,13 @@ module _ {S F : Type 0} {steps : S → Option ℕ → S → Type 0} (g : Mut F (
       let called_later = rw (place_in_run back (month - 1 - later) (omega arith)) at (first.1 (month - 1 - later) (omega arith)) in
       rw place at (sym (answers _ None f called_later).1)))
 
+-- what is held is the latest of 25 months
 pub holds : (rates : Rates) → Holds rates (held rates)
+unfolding latest_before
 holds rates = record {
   month_with_a_rate_is_never_changed = λ month rate here. rw here;
-  latest_rate_is_taken = λ last month rate near here later. ⊎_elim
-      (λ (before : last < month). rw (later month before (omega arith))
-      (latest_takes rates month 24 last rate before (omega arith) here (λ m past short. later m past (omega arith))))
-      (λ (same : month ≤ last). let now : last ≡ month = omega arith in rw (← now) (rw here))
-      (cases_lt last month);
-  rate_where_one_of_25_months_has_one = λ month earlier near has. ⊎_elim
-      (λ (before : earlier < month). or_else_later (rates month) (latest_before rates month 24) (latest_covers rates month 24 earlier before (omega arith) has))
-      (λ (same : month ≤ earlier). let now : earlier ≡ month = omega arith in or_else_first (rates month) (latest_before rates month 24) (rw (← now) has))
-      (cases_lt earlier month);
-  rate_only_where_one_of_25_months_has_one = λ month has. ⊎_elim
-      (λ (here : Has rates month). (month, ((omega arith, omega arith), here)))
-      (λ (there : is_some (latest_before rates month 24) ≡ true).
-      let found = latest_only rates month 24 there in (found.0, ((omega arith, omega arith), found.1.2)))
-      (or_else_either (rates month) (latest_before rates month 24) has);
+  latest_rate_is_taken = λ last month rate near here later. latest_takes rates (suc month) 25 last rate (omega arith) (omega arith) here (λ m past short. later m past (omega arith));
+  rate_where_one_of_25_months_has_one = λ month earlier near has. latest_covers rates (suc month) 25 earlier (omega arith) (omega arith) has;
+  rate_only_where_one_of_25_months_has_one = λ month has.
+      let found = latest_only rates (suc month) 25 has in (found.0, ((omega arith, omega arith), found.1.2));
 }

@@ -1,19 +1,16 @@
 -- Holding: where a list has no rate, the latest one of the 24 months before is taken.
 use Rattle.std.specs.Prelude.{◌≡◌, ℕ, zero, suc, ◌+◌, ◌<◌, ◌≤◌, Some, None, Option}
+use Rattle.std.specs.Option.{option_or}
 use Rattle.rates.specs.Rates.{Rates, Has}
-
-abbrev pub or_else : Option ℕ → Option ℕ → Option ℕ
-or_else None other = other
-or_else (Some rate) other = Some rate
 
 -- the rate of the latest of the `count` months before a month that has one; there is no month below 0
 unfoldable pub latest_before : Rates → ℕ → ℕ → Option ℕ
 latest_before rates month zero = None
 latest_before rates zero (suc n) = None
-latest_before rates (suc month) (suc n) = or_else (rates month) (latest_before rates month n)
+latest_before rates (suc month) (suc n) = option_or (rates month) (latest_before rates month n)
 
 abbrev pub held : Rates → Rates
-held rates month = or_else (rates month) (latest_before rates month 24)
+held rates month = option_or (rates month) (latest_before rates month 24)
 
 -- one of the 25 months up to a month
 abbrev pub UpTo : ℕ → ℕ → Type 0

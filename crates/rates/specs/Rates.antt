@@ -1,6 +1,6 @@
 -- The meaning of a rate list: the months, counted through from January of year 0, and the rate of each if it has one.
 -- Rates count ten-millionths for one month.
-use Rattle.std.specs.Prelude.{◌≡◌, ℕ, ◌+◌, ◌*◌, ◌≤◌, true, cond, is_some, Some, None, Option, nat_le}
+use Rattle.std.specs.Prelude.{ℕ, ◌+◌, ◌*◌, ◌≤◌, cond, IsSome, IfSome, Some, None, Option, nat_le}
 
 abbrev pub Rates : Type 0
 Rates = ℕ → Option ℕ
@@ -13,15 +13,14 @@ december year = 12 * year + 11
 
 -- a month has a rate
 abbrev pub Has : Rates → ℕ → Type 0
-Has rates month = is_some (rates month) ≡ true
+Has rates month = IsSome (rates month)
 
 abbrev pub highest : ℕ
 highest = 100000
 
 -- a number that is there is not above the limit
 abbrev pub Within : ℕ → Option ℕ → Type 0
-Within limit None = Unit {0}
-Within limit (Some number) = number ≤ limit
+Within limit number = IfSome number (λ n. n ≤ limit)
 
 -- every rate is within 0 to the highest
 abbrev pub Bounded : Rates → Type 0
