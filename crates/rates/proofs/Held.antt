@@ -1,6 +1,7 @@
 -- What holding does, from the latest of some months.
 use Rattle.std.proofs.Common.{◌≡◌, ℕ, zero, suc, ◌+◌, ◌-◌, ◌<◌, ◌≤◌, true, ◌⊎◌, is_some, Some, None, Option, refl, sym, ◌∙◌, inl, inr, ⊎_elim, arith}
 use Rattle.std.proofs.iter.runs.Sources.{nat_range_steps_back, range_runs_back}
+use Rattle.std.proofs.Math.Nat.{eq-or-lt_of_le}
 use Rattle.std.specs.Iterator.Runs.{Run, AllItemsGive, IsFirstToGive, IsIdenticalRun}
 use Rattle.std.specs.Prelude.{MatchOption, IsTrue, option_map}
 use Rattle.std.specs.Fn.{Called}
@@ -8,14 +9,13 @@ use denote.Param.Members.{Mut}
 use Rattle.std.specs.Option.{option_or}
 use Rattle.rates.specs.Rates.{Rates, Has}
 use Rattle.rates.specs.Holding.{Holds, held, latest_before}
-use Rattle.rates.proofs.Sums.{last_or_before}
 
 option_or_later : (a b : Option ℕ) → is_some b ≡ true → is_some (option_or a b) ≡ true
 option_or_later None b has = has
 option_or_later (Some x) b has = refl
 
 option_or_first : (a b : Option ℕ) → is_some a ≡ true → is_some (option_or a b) ≡ true
-option_or_first None b has = absurd (grind arith)
+option_or_first None b has = grind arith
 option_or_first (Some x) b has = refl
 
 option_or_either : (a b : Option ℕ) → is_some (option_or a b) ≡ true → (is_some a ≡ true) ⊎ (is_some b ≡ true)
@@ -32,7 +32,7 @@ module _ (rates : Rates) where
       (λ (same : last ≡ month). rw (← same) (rw here))
       (λ (earlier : last < month).
       rw (later month earlier (omega arith)) (latest_takes month n last rate earlier (omega arith) here (λ m past short. later m past (omega arith))))
-      (last_or_before before)
+      (eq-or-lt_of_le (omega arith))
 
   latest_none : (month n : ℕ) → ((earlier : ℕ) → earlier < month → month ≤ earlier + n → rates earlier ≡ None) → latest_before rates month n ≡ None
   unfolding latest_before
@@ -47,7 +47,7 @@ module _ (rates : Rates) where
   latest_covers (suc month) (suc n) earlier before near has = ⊎_elim
       (λ (same : earlier ≡ month). option_or_first (rates month) (latest_before rates month n) (rw (← same) has))
       (λ (further : earlier < month). option_or_later (rates month) (latest_before rates month n) (latest_covers month n earlier further (omega arith) has))
-      (last_or_before before)
+      (eq-or-lt_of_le (omega arith))
 
   latest_only : (month n : ℕ) → is_some (latest_before rates month n) ≡ true → (earlier : ℕ) × ((earlier < month) × (month ≤ earlier + n) × Has rates earlier)
   unfolding latest_before

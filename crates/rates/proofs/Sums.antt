@@ -1,6 +1,6 @@
 -- The sum of a run of months, one month at a time.
-use Rattle.std.proofs.Common.{◌≡◌, ℕ, zero, suc, ◌+◌, ◌-◌, ◌*◌, ◌<◌, ◌≤◌, ◌⊎◌, List, [], ◌∷◌, length, Some, None, Option, refl, sym, ap, inl, inr, ⊎_elim, add-zero, add_assoc, arith}
-use Rattle.std.proofs.lemmas.Bool.{cases_lt}
+use Rattle.std.proofs.Common.{◌≡◌, ℕ, zero, suc, ◌+◌, ◌-◌, ◌*◌, ◌<◌, ◌≤◌, List, [], ◌∷◌, length, Some, None, Option, refl, sym, ap, ⊎_elim, add-zero, add_assoc, arith}
+use Rattle.std.proofs.Math.Nat.{eq-or-lt_of_le}
 use Rattle.rates.specs.Rates.{Rates, Within, Bounded, highest}
 use Rattle.rates.specs.Factor.{AddsUp, RatesFrom, plus, sum_of, total}
 
@@ -22,9 +22,6 @@ plus_none : (a : Option ℕ) → plus a None ≡ None
 plus_none None = refl
 plus_none (Some x) = refl
 
-pub last_or_before : {i n : ℕ} → i < suc n → (i ≡ n) ⊎ (i < n)
-last_or_before {i} {n} short = ⊎_elim (λ (h : i < n). inr h) (λ (h : n ≤ i). inl (omega arith)) (cases_lt i n)
-
 -- a missing month leaves no sum
 missing_month : (rates : Rates) (first n i : ℕ) → i < n → rates (first + i) ≡ None → sum_of rates first n ≡ None
 unfolding sum_of
@@ -32,7 +29,7 @@ missing_month rates first zero i short missing = absurd (omega arith)
 missing_month rates first (suc n) i short missing = ⊎_elim
     (λ (here : i ≡ n). rw (← here) (rw missing (plus_none (sum_of rates first i))))
     (λ (before : i < n). rw (missing_month rates first n i before missing))
-    (last_or_before short)
+    (eq-or-lt_of_le (omega arith))
 
 pub no_sum : (rates : Rates) (first count month : ℕ) → first ≤ month → month < first + count → None ≡ rates month → None ≡ sum_of rates first count
 no_sum rates first count month from before missing =

@@ -15,7 +15,7 @@ fn sum_of_rates<L: RateList>(list: &L, first: u32, count: u32) -> Option<u32>
     ensures adds_up { AddsUp (L.rates list.now) first count result }
 {
     let mut sum = 0;
-    // A loop: of a chain's `sum` into an `Option` it is not proved that a missing month leaves none.
+    // A loop: of a `sum` into an `Option` it is not proved that one missing month leaves nothing.
     for month in first..first + count {
         sum += list.rate(month)?;
     }
