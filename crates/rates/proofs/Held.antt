@@ -1,9 +1,10 @@
 -- What holding does, from the latest of some months.
 use Rattle.std.proofs.Common.{◌≡◌, ℕ, zero, suc, ◌+◌, ◌-◌, ◌<◌, ◌≤◌, true, ◌⊎◌, is_some, Some, None, Option, refl, sym, ◌∙◌, inl, inr, ⊎_elim, arith}
 use Rattle.std.proofs.iter.runs.Sources.{nat_range_steps_back, range_runs_back}
+use Rattle.std.proofs.lemmas.Iterator.Adapters.{option_map_id}
 use Rattle.std.proofs.Math.Nat.{eq-or-lt_of_le}
 use Rattle.std.specs.Iterator.Runs.{Run, AllItemsGive, IsFirstToGive, IsIdenticalRun}
-use Rattle.std.specs.Prelude.{MatchOption, IsTrue, option_map}
+use Rattle.std.specs.Prelude.{MatchOption, IsTrue}
 use Rattle.std.specs.Fn.{Called}
 use denote.Param.Members.{Mut}
 use Rattle.std.specs.Option.{option_or}
@@ -59,41 +60,38 @@ module _ (rates : Rates) where
       let found = latest_only month n there in (found.0, (omega arith, omega arith, found.1.2)))
       (option_or_either (rates month) (latest_before rates month n) has)
 
-is_place : (a : Option ℕ) (n : ℕ) → option_map (λ x. x) a ≡ Some n → a ≡ Some n
-is_place None n is = is
-is_place (Some x) n is = is
-
 -- p runs back over the months before a month, q is the run behind it: it has found the latest rate
-module _ {S F : Type 0} {steps : S → Option ℕ → S → Type 0} (g : Mut F (ℕ × Unit {0}) (Option ℕ)) (f : F) (p : Run steps) (q : Run nat_range_steps_back) (rates : Rates) (month count : ℕ) where
+module _ {S F : Type 0} {steps : S → Option ℕ → S → Type 0} (g : Mut F (ℕ × Unit {0}) (Option ℕ)) (f : F)
+    (p : Run steps) (q : Run nat_range_steps_back) (rates : Rates) (month count : ℕ) where
   abbrev Back : Type 0
   Back = IsIdenticalRun p q × (q.from.start ≡ month - count) × (q.from.end ≡ month)
 
   abbrev Answers : Type 0
-  Answers = (x : ℕ) (r : Option ℕ) (f' : F) → Called g f (x, tt) r f' → (f' ≡ f) × (r ≡ rates x)
+  Answers = (x : ℕ) (r : Option ℕ) (f' : F) → Called g f (x, tt) r f' → (r ≡ rates x) × (f' ≡ f)
 
   place_in_run : Back → (k : ℕ) → k < p.len → p.at k ≡ Some (month - 1 - k)
   place_in_run back k short =
-      is_place (p.at k) (month - 1 - k) (rw (back.0.0.2 k, back.2) at ((range_runs_back q q.seen).3 k (rw back.0.0.0 short)))
+      rw (back.0.0.2 k, back.2, option_map_id (p.at k)) at ((range_runs_back q q.seen).3 k (rw back.0.0.0 short))
 
   pub latest_found : (found : Option ℕ) → Back → Answers
       → MatchOption found (IsTrue p.whole × AllItemsGive p g f None) (λ rate. (i : ℕ) × (i < p.len) × (p.len ≡ i + 1) × IsFirstToGive p g f (Some rate) None i)
       → found ≡ latest_before rates month count
   latest_found None back answers ran =
-      let none = ran.1 (λ x r f' called. (answers x.0 r f' called).0) in
+      let none = ran.1 (λ x r f' called. (answers x.0 r f' called).1) in
       let all : q.len ≡ month - (month - count) = rw (← back.1, ← back.2) ((range_runs_back q q.seen).1 (back.0.1 ∙ ran.0)) in
       sym (latest_none rates month count (λ earlier before near.
       let place : month - 1 - (month - 1 - earlier) ≡ earlier = omega arith in
       let called = rw (place_in_run back (month - 1 - earlier) (omega (arith, back.0.0.0))) at (none (month - 1 - earlier)) in
-      rw place at (sym (answers _ None f called).1)))
+      rw place at (sym (answers _ None f called).0)))
   latest_found (Some rate) back answers ran =
-      let first = ran.3 (λ x r f' called. (answers x.0 r f' called).0) in
+      let first = ran.3 (λ x r f' called. (answers x.0 r f' called).1) in
       let within : q.len ≤ month - (month - count) = rw (← back.1, ← back.2) (range_runs_back q q.seen).0 in
       let called = rw (place_in_run back ran.0 ran.1) at first.0 in
-      sym (latest_takes rates month count (month - 1 - ran.0) rate (omega (arith, back.0.0.0)) (omega (arith, back.0.0.0)) (sym (answers _ (Some rate) f called).1)
+      sym (latest_takes rates month count (month - 1 - ran.0) rate (omega (arith, back.0.0.0)) (omega (arith, back.0.0.0)) (sym (answers _ (Some rate) f called).0)
       (λ later past before.
       let place : month - 1 - (month - 1 - later) ≡ later = omega arith in
       let called_later = rw (place_in_run back (month - 1 - later) (omega arith)) at (first.1 (month - 1 - later) (omega arith)) in
-      rw place at (sym (answers _ None f called_later).1)))
+      rw place at (sym (answers _ None f called_later).0)))
 
 -- what is held is the latest of 25 months
 pub holds : (rates : Rates) → Holds rates (held rates)
