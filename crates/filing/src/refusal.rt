@@ -1,6 +1,9 @@
 ghost use Rattle.std.specs.Prelude.{◌≡◌};
 ghost use Rattle.filing.specs.Refusals.{number_of};
 
+use std::error::Error;
+use std::fmt;
+
 /// Why a filing was refused.
 #[derive(Clone, Copy, PartialEq, Eq, Debug)]
 pub enum Refusal {
@@ -42,6 +45,25 @@ impl Refusal {
         }
     }
 }
+
+/// What was wrong, for a person; a sheet's refusal says it itself.
+impl fmt::Display for Refusal {
+    fn fmt<W: fmt::Write>(&self, f: &mut fmt::Formatter<W>) -> fmt::Result {
+        f.write_str(match self {
+            Refusal::ProjectNumberOutOfRange => "a project number is 1 to 99,999,999",
+            Refusal::FileTooLong => "a filing has at most 65,536 bytes",
+            Refusal::NotALine => "a line has 56 bytes and then a newline",
+            Refusal::LetterOutOfPlace => "a T line comes first, then F lines, then P lines",
+            Refusal::UnknownTemplate => "columns 2-4 of the T line hold MM or CC",
+            Refusal::MalformedField => "a field is not right-justified after spaces",
+            Refusal::TooManyProjects => "a filing has at most 64 projects",
+            Refusal::NoProject => "a filing has at least one project",
+            Refusal::Sheet(refusal) => return refusal.fmt(f),
+        })
+    }
+}
+
+impl Error for Refusal {}
 
 /// A refusal, and the number of the line that it is about, from 1.
 #[derive(Clone, Copy, PartialEq, Eq, Debug)]

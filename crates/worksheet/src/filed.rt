@@ -1,7 +1,6 @@
 use crate::layout::{Layout, cc_layout, mm_layout};
 use crate::pages::{Row, print_page_one, print_page_two};
-use crate::words::why_filing;
-use filing::{Filing, Pages, read_pages};
+use filing::{Filing, LineRefusal, Pages, read_pages};
 use sheets::Template;
 use std::io;
 use std::io::Read;
@@ -33,12 +32,9 @@ pub fn show_filing(rt: &HostRuntime) -> io::Result<()> {
             Filing::Cc(pages) => print_filed(rt, &cc_layout(), &pages),
         },
         Err(refused) => {
-            let number = refused.refusal.number();
-            let why = why_filing(refused.refusal);
-            println!(rt;
-                "Line {} of the filing is refused ({number}): {why}.",
-                refused.line
-            )
+            let LineRefusal { line, refusal } = refused;
+            let number = refusal.number();
+            println!(rt; "Line {line} of the filing is refused ({number}): {refusal}.")
         }
     }
 }

@@ -6,7 +6,6 @@ mod layout;
 mod pages;
 mod task;
 mod text;
-mod words;
 
 use std::{env, io};
 

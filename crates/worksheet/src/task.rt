@@ -1,7 +1,6 @@
 use crate::layout::{EXPENSE_LINES, Layout, PrintedLine, RETURN_LINES, Shows};
 use crate::pages::Row;
 use crate::text::{percent, thousands};
-use crate::words::why;
 use sheets::{OpenSheet, Project, Template, WorkedSheet};
 use std::io;
 
@@ -16,7 +15,7 @@ pub fn enter_all<T: Template>(
         print!(rt; "  line {label:<4}{text:>20}  ")?;
         match sheet.enter_labelled(label.as_bytes(), *amount) {
             Ok(()) => println!(rt; "entered")?,
-            Err(refusal) => println!(rt; "refused ({}): {}", refusal.number(), why(refusal))?,
+            Err(refusal) => println!(rt; "refused ({}): {refusal}", refusal.number())?,
         }
     }
     Ok(())
@@ -57,7 +56,7 @@ pub fn finish<T: Template>(
         Err(refused) => {
             let refusal = refused.0;
             let sheet = refused.1;
-            print!(rt; "refused ({}): {}", refusal.number(), why(refusal))?;
+            print!(rt; "refused ({}): {refusal}", refusal.number())?;
             let named = print_missing(rt, &sheet, layout.first_lines, false)?;
             let named = print_missing(rt, &sheet, &EXPENSE_LINES, named)?;
             let _ = print_missing(rt, &sheet, &RETURN_LINES, named)?;
@@ -99,7 +98,7 @@ pub fn price_all<T: Template>(
                     columns,
                 })?;
             }
-            Err(refusal) => println!(rt; "refused ({}): {}", refusal.number(), why(refusal))?,
+            Err(refusal) => println!(rt; "refused ({}): {refusal}", refusal.number())?,
         }
     }
     Ok(rows)
