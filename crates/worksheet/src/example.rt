@@ -1,7 +1,7 @@
-use crate::layout::{Layout, cc_layout, mm_layout};
-use crate::pages::{print_page_one, print_page_two};
+use crate::layout::Printed;
+use crate::pages::print_pages;
 use crate::task::{enter_all, finish, price_all};
-use sheets::{AttachmentCc, AttachmentMm, OpenSheet, Project, Template, WorkedSheet};
+use sheets::{AttachmentCc, AttachmentMm, OpenSheet, Project, WorkedSheet};
 use std::io;
 
 fn project(gross_plant: i64, accumulated_depreciation: i64, depreciation_expense: i64) -> Project {
@@ -13,23 +13,19 @@ fn project(gross_plant: i64, accumulated_depreciation: i64, depreciation_expense
 }
 
 /// Prices the projects of a worked sheet and prints its two pages.
-fn print_pages<T: Template>(
-    rt: &HostRuntime,
-    layout: &Layout,
+fn print_priced<T: Printed>(
+    rt: &(impl Print + AllocGlobal),
     sheet: &WorkedSheet<T>,
     projects: &[(i64, Project)],
 ) -> io::Result<()> {
     let rows = price_all(rt, sheet, projects)?;
     println!(rt)?;
-    print_page_one(rt, layout, sheet)?;
-    println!(rt)?;
-    print_page_two(rt, layout, sheet, &rows)
+    print_pages(rt, sheet, &rows)
 }
 
 /// Attachment CC's printed example: finished too early, one figure refused, and then worked.
-fn cc_task(rt: &HostRuntime) -> io::Result<()> {
+fn cc_task(rt: &(impl Print + AllocGlobal)) -> io::Result<()> {
     println!(rt; "Attachment CC: the example that the tariff prints")?;
-    let layout = cc_layout();
     let mut sheet = OpenSheet::<AttachmentCc>::new();
     let first_figures = [
         ("1", 1_865_000_000),
@@ -40,15 +36,14 @@ fn cc_task(rt: &HostRuntime) -> io::Result<()> {
         ("10", 47_594_197),
     ];
     enter_all(rt, &mut sheet, &first_figures)?;
-    match finish(rt, &layout, sheet)? {
+    match finish(rt, sheet)? {
         Ok(_) => Ok(()),
-        Err(sheet) => cc_task_completed(rt, &layout, sheet),
+        Err(sheet) => cc_task_completed(rt, sheet),
     }
 }
 
 fn cc_task_completed(
-    rt: &HostRuntime,
-    layout: &Layout,
+    rt: &(impl Print + AllocGlobal),
     mut sheet: OpenSheet<AttachmentCc>,
 ) -> io::Result<()> {
     enter_all(
@@ -61,16 +56,15 @@ fn cc_task_completed(
         (2, project(10_000_000, 2_000_000, 200_000)),
         (3, project(15_000_000, 0, 0)),
     ];
-    match finish(rt, layout, sheet)? {
-        Ok(sheet) => print_pages(rt, layout, &sheet, &projects),
+    match finish(rt, sheet)? {
+        Ok(sheet) => print_priced(rt, &sheet, &projects),
         Err(_) => Ok(()),
     }
 }
 
 /// An Attachment MM sheet with one project.
-fn mm_task(rt: &HostRuntime) -> io::Result<()> {
+fn mm_task(rt: &(impl Print + AllocGlobal)) -> io::Result<()> {
     println!(rt; "Attachment MM: a sheet with one Multi-Value Project")?;
-    let layout = mm_layout();
     let mut sheet = OpenSheet::<AttachmentMm>::new();
     let figures = [
         ("1", 1_000_000_000),
@@ -86,14 +80,14 @@ fn mm_task(rt: &HostRuntime) -> io::Result<()> {
     ];
     enter_all(rt, &mut sheet, &figures)?;
     let projects = [(7, project(20_000_000, 2_000_000, 400_000))];
-    match finish(rt, &layout, sheet)? {
-        Ok(sheet) => print_pages(rt, &layout, &sheet, &projects),
+    match finish(rt, sheet)? {
+        Ok(sheet) => print_priced(rt, &sheet, &projects),
         Err(_) => Ok(()),
     }
 }
 
 /// Works the built-in task and prints each action as it is done.
-pub fn show_example(rt: &HostRuntime) -> io::Result<()> {
+pub fn show_example(rt: &(impl Print + AllocGlobal)) -> io::Result<()> {
     cc_task(rt)?;
     println!(rt)?;
     mm_task(rt)

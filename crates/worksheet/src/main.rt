@@ -9,7 +9,7 @@ mod text;
 
 use std::{env, io};
 
-fn show_usage(rt: &HostRuntime) -> io::Result<()> {
+fn show_usage(rt: &impl Print) -> io::Result<()> {
     println!(rt; "worksheet works page 1 and page 2 of Attachment MM and Attachment CC.")?;
     println!(rt)?;
     println!(rt; "  worksheet < FILING     prints both pages of a filing, or why it is refused")?;
@@ -17,9 +17,7 @@ fn show_usage(rt: &HostRuntime) -> io::Result<()> {
 }
 
 fn main(rt: HostRuntime) -> io::Result<()> {
-    let mut args = env::args(&rt)?;
-    let _ = args.next();
-    match args.next() {
+    match env::args(&rt)?.nth(1) {
         None => filed::show_filing(&rt),
         Some(word) if word.as_str() == "--example" => example::show_example(&rt),
         Some(_) => show_usage(&rt),

@@ -1,8 +1,11 @@
-use crate::layout::{Cell, EXPENSE_LINES, Layout, PrintedLine, RETURN_LINES, Shows, heading};
-use crate::text::{percent, thousands};
-use sheets::{Columns, Elements, Factors, Project, Template, WorkedSheet};
-use std::alloc::{AllocError, Global};
-use std::io;
+use crate::layout::{
+    Cell, Column, EXPENSE_LINES, Printed, PrintedLine, RETURN_LINES, Shows, Summed,
+};
+use crate::text::{ColumnNumber, Percent, SubRow, Thousands};
+use filing::PricedProject;
+use sheets::{Columns, Factors, Project, WorkedSheet};
+use std::fmt::Display;
+use std::{fmt, io};
 
 /// A project with its columns.
 #[derive(Clone, Copy)]
@@ -12,77 +15,89 @@ pub struct Row {
     pub columns: Columns,
 }
 
-/// The single factor that a line shows, if it shows one.
-fn single_factor(shows: Shows, factors: &Factors) -> Option<i64> {
-    match shows {
-        Shows::OmFactor => factors.transmission_om,
-        Shows::OtherOmFactor => Some(factors.expense.other_om),
-        Shows::DepreciationFactor => Some(factors.expense.general_depreciation),
-        Shows::OtherTaxesFactor => Some(factors.expense.other_taxes),
-        Shows::IncomeTaxesFactor => Some(factors.returns.income_taxes),
-        Shows::RateBaseFactor => Some(factors.returns.return_on_rate_base),
-        _ => None,
+impl From<&PricedProject> for Row {
+    fn from(priced: &PricedProject) -> Row {
+        Row {
+            number: priced.number,
+            project: priced.project,
+            columns: priced.columns,
+        }
     }
 }
 
-/// The amount that a line shows, if it shows one.
-fn amount<T: Template>(shows: Shows, sheet: &WorkedSheet<T>, elements: &Elements) -> Option<i128> {
-    match shows {
-        Shows::Entered(figure) => match sheet.figure(figure) {
-            Some(amount) => Some(amount.into()),
-            None => None,
-        },
-        Shows::NetPlant => Some(elements.returns.net_plant),
-        Shows::OtherOm => Some(elements.expense.other_om),
-        Shows::AdjustedOm => match elements.transmission_om {
-            Some(om) => Some(om.adjusted_om),
-            None => None,
-        },
-        _ => None,
+/// What stands beside a name or in a column.
+#[derive(Clone, Copy)]
+enum Value {
+    Amount(i128),
+    Factor(i64),
+}
+
+impl Display for Value {
+    fn fmt<W: fmt::Write>(&self, f: &mut fmt::Formatter<W>) -> fmt::Result {
+        match *self {
+            Value::Amount(amount) => Thousands(amount).fmt(f),
+            Value::Factor(factor) => Percent(factor).fmt(f),
+        }
     }
 }
 
-fn print_lines<T: Template>(
-    rt: &HostRuntime,
+/// What a line shows beside its name, if it shows anything.
+fn line_value<T: Printed>(shows: Shows, sheet: &WorkedSheet<T>) -> Option<Value> {
+    let elements = sheet.elements();
+    let factors = sheet.factors();
+    match shows {
+        Shows::Heading => None,
+        Shows::Entered(figure) => sheet
+            .figure(figure)
+            .map(|amount| Value::Amount(amount.into())),
+        Shows::NetPlant => Some(Value::Amount(elements.returns.net_plant)),
+        Shows::AdjustedOm => elements
+            .transmission_om
+            .map(|om| Value::Amount(om.adjusted_om)),
+        Shows::OtherOm => Some(Value::Amount(elements.expense.other_om)),
+        Shows::OmFactor => factors.transmission_om.map(Value::Factor),
+        Shows::OtherOmFactor => Some(Value::Factor(factors.expense.other_om)),
+        Shows::DepreciationFactor => Some(Value::Factor(factors.expense.general_depreciation)),
+        Shows::OtherTaxesFactor => Some(Value::Factor(factors.expense.other_taxes)),
+        Shows::IncomeTaxesFactor => Some(Value::Factor(factors.returns.income_taxes)),
+        Shows::RateBaseFactor => Some(Value::Factor(factors.returns.return_on_rate_base)),
+    }
+}
+
+fn print_lines<T: Printed>(
+    rt: &impl Print,
     lines: &[PrintedLine],
     sheet: &WorkedSheet<T>,
 ) -> io::Result<()> {
-    let heap = rt.alloc();
-    let elements = sheet.elements();
-    let factors = sheet.factors();
     for line in lines {
-        let PrintedLine(label, name, shows) = *line;
-        if let Some(amount) = amount(shows, sheet, &elements) {
-            let amount = thousands(heap, amount)?;
-            println!(rt; "{label:<4}  {name:<54}{amount:>18}")?;
-        } else if let Some(factor) = single_factor(shows, &factors) {
-            let factor = percent(heap, factor)?;
-            println!(rt; "{label:<4}  {name:<54}{factor:>18}{factor:>12}")?;
-        } else {
-            println!(rt; "\n      {name}")?;
+        let PrintedLine { label, name, shows } = *line;
+        match line_value(shows, sheet) {
+            None => println!(rt; "\n      {name}")?,
+            Some(Value::Amount(amount)) => {
+                println!(rt; "{label:<4}  {name:<54}{:>18}", Thousands(amount))?;
+            }
+            Some(Value::Factor(factor)) => {
+                let factor = Percent(factor);
+                println!(rt; "{label:<4}  {name:<54}{factor:>18}{factor:>12}")?;
+            }
         }
     }
     Ok(())
 }
 
-fn print_total_factor(rt: &HostRuntime, label: &str, name: &str, factor: i64) -> io::Result<()> {
-    let factor = percent(rt.alloc(), factor)?;
-    println!(rt; "{label:<4}  {name:<72}{factor:>12}")
+fn print_total_factor(rt: &impl Print, label: &str, name: &str, factor: i64) -> io::Result<()> {
+    println!(rt; "{label:<4}  {name:<72}{:>12}", Percent(factor))
 }
 
 /// Page 1 in the order of the template.
-pub fn print_page_one<T: Template>(
-    rt: &HostRuntime,
-    layout: &Layout,
-    sheet: &WorkedSheet<T>,
-) -> io::Result<()> {
-    let attachment = layout.attachment;
+fn print_page_one<T: Printed>(rt: &impl Print, sheet: &WorkedSheet<T>) -> io::Result<()> {
+    let layout = T::layout();
+    let factors = sheet.factors();
     println!(rt;
-        "Attachment {attachment}, page 1 of 2{:>52}{:>12}",
-        "(3)", "(4)"
+        "Attachment {}, page 1 of 2{:>52}{:>12}",
+        layout.attachment, "(3)", "(4)"
     )?;
     println!(rt; "Line{:>74}{:>12}", "Transmission", "Allocator")?;
-    let factors = sheet.factors();
     print_lines(rt, layout.first_lines, sheet)?;
     print_lines(rt, &EXPENSE_LINES, sheet)?;
     print_total_factor(rt, "9", layout.expense_name, factors.expense.total)?;
@@ -103,139 +118,121 @@ pub fn print_page_one<T: Template>(
 }
 
 /// What a column shows of a project.
-fn cell_text(heap: Global, cell: Cell, row: &Row, factors: &Factors) -> Result<String, AllocError> {
-    let project = &row.project;
+fn cell_value(cell: Cell, row: &Row, factors: &Factors) -> Value {
+    let Row {
+        project,
+        columns,
+        ..
+    } = row;
     match cell {
-        Cell::OmFactor => percent(heap, factors.transmission_om.unwrap_or(0)),
-        Cell::OtherExpenseFactor | Cell::ExpenseFactor => percent(heap, factors.expense.total),
-        Cell::ReturnFactor => percent(heap, factors.returns.total),
-        Cell::GrossPlant => thousands(heap, project.gross_plant.into()),
-        Cell::AccumulatedDepreciation => thousands(heap, project.accumulated_depreciation.into()),
+        Cell::GrossPlant => Value::Amount(project.gross_plant.into()),
+        Cell::AccumulatedDepreciation => Value::Amount(project.accumulated_depreciation.into()),
         Cell::NetPlant => {
-            let gross = i128::from(project.gross_plant);
-            thousands(heap, gross - i128::from(project.accumulated_depreciation))
+            let gross_plant = i128::from(project.gross_plant);
+            Value::Amount(gross_plant - i128::from(project.accumulated_depreciation))
         }
-        Cell::OmExpense => thousands(heap, row.columns.transmission_om_expense.into()),
-        Cell::OtherExpense => thousands(heap, row.columns.other_expense.into()),
-        _ => match summed(cell, &row.columns) {
-            Some(amount) => thousands(heap, amount.into()),
-            None => Ok(String::new(heap)),
-        },
+        Cell::OmFactor => Value::Factor(factors.transmission_om.unwrap_or(0)),
+        Cell::ExpenseFactor => Value::Factor(factors.expense.total),
+        Cell::ReturnFactor => Value::Factor(factors.returns.total),
+        Cell::OmExpense => Value::Amount(columns.transmission_om_expense.into()),
+        Cell::OtherExpense => Value::Amount(columns.other_expense.into()),
+        Cell::Summed(summed) => Value::Amount(summed.of(columns).into()),
     }
 }
 
-/// The amount of a column that has a sum, if it has one.
-fn summed(cell: Cell, columns: &Columns) -> Option<i64> {
-    match cell {
-        Cell::ExpenseCharge => Some(columns.annual_expense_charge),
-        Cell::ReturnCharge => Some(columns.annual_return_charge),
-        Cell::DepreciationExpense => Some(columns.depreciation_expense),
-        Cell::Requirement => Some(columns.annual_revenue_requirement),
-        _ => None,
-    }
-}
-
-/// The sum of a column, if it has one. It has room for more rows than there can be.
-fn column_sum(cell: Cell, rows: &[Row]) -> Option<i128> {
-    let mut sum = 0i128;
-    for row in rows {
-        let amount = summed(cell, &row.columns)?;
-        sum = sum.saturating_add(amount.into());
-    }
-    Some(sum)
+/// The sum of a column. It has room for more rows than there can be.
+fn column_sum(summed: Summed, rows: &[Row]) -> i128 {
+    rows.iter()
+        .map(|row| i128::from(summed.of(&row.columns)))
+        .fold(0, i128::saturating_add)
 }
 
 /// The heading of a band whose first column has this number.
-fn print_heading(rt: &HostRuntime, first_number: usize, cells: &[Cell]) -> io::Result<()> {
+fn print_heading(rt: &impl Print, first_number: usize, columns: &[Column]) -> io::Result<()> {
     print!(rt; "{:>14}", "(2)")?;
-    for place in 0..cells.len() {
-        let number = format!(in rt.alloc(); "({})", first_number.saturating_add(place))?;
-        print!(rt; "{number:>16}")?;
+    for (place, _) in columns.iter().enumerate() {
+        print!(rt; "{:>16}", ColumnNumber(first_number.saturating_add(place)))?;
     }
     println!(rt)?;
     let starts = ["          MTEP", "       Project", "Line    Number"];
-    for part in 0..3 {
-        print!(rt; "{}", starts[part])?;
-        for cell in cells {
-            print!(rt; "{:>16}", heading(*cell)[part])?;
+    for (part, start) in starts.iter().enumerate() {
+        print!(rt; "{start}")?;
+        for column in columns {
+            print!(rt; "{:>16}", column.heading[part])?;
         }
         println!(rt)?;
     }
     Ok(())
 }
 
-/// The letters of a project's sub-row of line 1: a to z, then aa, ab and so on.
-fn sub_row(heap: Global, place: usize) -> Result<String, AllocError> {
-    let mut letters = String::new(heap);
-    if place >= 26 {
-        letters.push(letter(place / 26 - 1))?;
-    }
-    letters.push(letter(place))?;
-    Ok(letters)
-}
-
-fn letter(place: usize) -> char {
-    char::from(b'a' + (place % 26) as u8)
-}
-
-fn print_row(rt: &HostRuntime, cells: &[Cell], row: &Row, factors: &Factors) -> io::Result<()> {
+fn print_row(rt: &impl Print, columns: &[Column], row: &Row, factors: &Factors) -> io::Result<()> {
     print!(rt; "{:>10}", row.number)?;
-    for cell in cells {
-        let text = cell_text(rt.alloc(), *cell, row, factors)?;
-        print!(rt; "{text:>16}")?;
+    for column in columns {
+        print!(rt; "{:>16}", cell_value(column.cell, row, factors))?;
     }
     println!(rt)
 }
 
 /// The sums of a band; columns of plant and factors have none.
-fn print_sums(rt: &HostRuntime, cells: &[Cell], rows: &[Row]) -> io::Result<()> {
+fn print_sums(rt: &impl Print, columns: &[Column], rows: &[Row]) -> io::Result<()> {
     print!(rt; "{:>14}", "Sum")?;
-    for cell in cells {
-        let text = match column_sum(*cell, rows) {
-            Some(sum) => thousands(rt.alloc(), sum)?,
-            None => String::new(rt.alloc()),
-        };
-        print!(rt; "{text:>16}")?;
+    for column in columns {
+        match column.cell {
+            Cell::Summed(summed) => print!(rt; "{:>16}", Thousands(column_sum(summed, rows)))?,
+            _ => print!(rt; "{:>16}", "")?,
+        }
     }
     println!(rt)
 }
 
 fn print_band(
-    rt: &HostRuntime,
+    rt: &impl Print,
     first_number: usize,
-    cells: &[Cell],
+    columns: &[Column],
     rows: &[Row],
     factors: &Factors,
 ) -> io::Result<()> {
     println!(rt)?;
-    print_heading(rt, first_number, cells)?;
+    print_heading(rt, first_number, columns)?;
     for (place, row) in rows.iter().enumerate() {
-        print!(rt; "1{:<3}", sub_row(rt.alloc(), place)?)?;
-        print_row(rt, cells, row, factors)?;
+        print!(rt; "1{:<3}", SubRow(place))?;
+        print_row(rt, columns, row, factors)?;
     }
-    print_sums(rt, cells, rows)
+    print_sums(rt, columns, rows)
 }
 
 /// Page 2 with a row for each project.
-pub fn print_page_two<T: Template>(
-    rt: &HostRuntime,
-    layout: &Layout,
+fn print_page_two<T: Printed>(
+    rt: &impl Print,
     sheet: &WorkedSheet<T>,
     rows: &[Row],
 ) -> io::Result<()> {
-    let attachment = layout.attachment;
-    let title = layout.title;
+    let layout = T::layout();
     let factors = sheet.factors();
-    let expense_cells = layout.expense_cells;
-    println!(rt; "Attachment {attachment}, page 2 of 2: {title}")?;
-    print_band(rt, 3, expense_cells, rows, &factors)?;
-    let second_number = expense_cells.len().saturating_add(3);
-    print_band(rt, second_number, layout.return_cells, rows, &factors)?;
+    let expense_columns = layout.expense_columns;
+    println!(rt;
+        "Attachment {}, page 2 of 2: {}",
+        layout.attachment, layout.title
+    )?;
+    print_band(rt, 3, expense_columns, rows, &factors)?;
+    let second_number = expense_columns.len().saturating_add(3);
+    print_band(rt, second_number, layout.return_columns, rows, &factors)?;
     println!(rt)?;
-    let total = thousands(rt.alloc(), column_sum(Cell::Requirement, rows).unwrap_or(0))?;
+    let total = Thousands(column_sum(Summed::Requirement, rows));
     println!(rt; "{:<4}  {:<54}{total:>18}", "2", layout.total_name)?;
     println!(rt;
         "{:<4}  {:<54}{total:>18}",
         "3", "Rev. Req. Adj. for Attachment O"
     )
+}
+
+/// Both pages of a sheet with its projects.
+pub fn print_pages<T: Printed>(
+    rt: &impl Print,
+    sheet: &WorkedSheet<T>,
+    rows: &[Row],
+) -> io::Result<()> {
+    print_page_one(rt, sheet)?;
+    println!(rt)?;
+    print_page_two(rt, sheet, rows)
 }

@@ -1,19 +1,19 @@
-use crate::layout::{EXPENSE_LINES, Layout, PrintedLine, RETURN_LINES, Shows};
+use crate::layout::{EXPENSE_LINES, Printed, RETURN_LINES, Shows};
 use crate::pages::Row;
-use crate::text::{percent, thousands};
+use crate::text::{Percent, Thousands};
 use sheets::{OpenSheet, Project, Template, WorkedSheet};
+use std::alloc::{AllocError, Global};
 use std::io;
 
 /// Enters figures by their printed labels and says what became of each.
 pub fn enter_all<T: Template>(
-    rt: &HostRuntime,
+    rt: &impl Print,
     sheet: &mut OpenSheet<T>,
     figures: &[(&str, i64)],
 ) -> io::Result<()> {
-    for (label, amount) in figures {
-        let text = thousands(rt.alloc(), (*amount).into())?;
-        print!(rt; "  line {label:<4}{text:>20}  ")?;
-        match sheet.enter_labelled(label.as_bytes(), *amount) {
+    for &(label, amount) in figures {
+        print!(rt; "  line {label:<4}{:>20}  ", Thousands(amount.into()))?;
+        match sheet.enter_labelled(label.as_bytes(), amount) {
             Ok(()) => println!(rt; "entered")?,
             Err(refusal) => println!(rt; "refused ({}): {refusal}", refusal.number())?,
         }
@@ -21,30 +21,27 @@ pub fn enter_all<T: Template>(
     Ok(())
 }
 
-/// Names those of these lines that have no amount yet, and answers whether any line was named.
-fn print_missing<T: Template>(
-    rt: &HostRuntime,
+/// The labels of the lines that have no amount yet.
+fn missing<T: Printed>(
+    heap: Global,
     sheet: &OpenSheet<T>,
-    lines: &[PrintedLine],
-    named_before: bool,
-) -> io::Result<bool> {
-    let mut named = named_before;
-    for line in lines {
-        let PrintedLine(label, _, shows) = *line;
-        if let Shows::Entered(figure) = shows {
-            if sheet.figure(figure).is_none() {
-                print!(rt; "{}{label}", if named { ", " } else { ": " })?;
-                named = true;
-            }
-        }
-    }
-    Ok(named)
+) -> Result<Vec<&'static str>, AllocError> {
+    T::layout()
+        .first_lines
+        .iter()
+        .chain(&EXPENSE_LINES)
+        .chain(&RETURN_LINES)
+        .filter(|line| match line.shows {
+            Shows::Entered(figure) => sheet.figure(figure).is_none(),
+            _ => false,
+        })
+        .map(|line| line.label)
+        .collect(heap)
 }
 
 /// Finishes page 1 and says what became of it; a refused sheet comes back open.
-pub fn finish<T: Template>(
-    rt: &HostRuntime,
-    layout: &Layout,
+pub fn finish<T: Printed>(
+    rt: &(impl Print + AllocGlobal),
     sheet: OpenSheet<T>,
 ) -> io::Result<Result<WorkedSheet<T>, OpenSheet<T>>> {
     print!(rt; "  finish              ")?;
@@ -53,48 +50,50 @@ pub fn finish<T: Template>(
             print_factors(rt, &worked)?;
             Ok(Ok(worked))
         }
-        Err(refused) => {
-            let refusal = refused.0;
-            let sheet = refused.1;
+        Err((refusal, sheet)) => {
             print!(rt; "refused ({}): {refusal}", refusal.number())?;
-            let named = print_missing(rt, &sheet, layout.first_lines, false)?;
-            let named = print_missing(rt, &sheet, &EXPENSE_LINES, named)?;
-            let _ = print_missing(rt, &sheet, &RETURN_LINES, named)?;
+            let missing = missing(rt.alloc(), &sheet)?;
+            if !missing.is_empty() {
+                print!(rt; ": {}", missing.join(rt.alloc(), ", ")?)?;
+            }
             println!(rt)?;
             Ok(Err(sheet))
         }
     }
 }
 
-fn print_factors<T: Template>(rt: &HostRuntime, sheet: &WorkedSheet<T>) -> io::Result<()> {
-    let heap = rt.alloc();
+fn print_factors<T: Template>(rt: &impl Print, sheet: &WorkedSheet<T>) -> io::Result<()> {
     let factors = sheet.factors();
     print!(rt; "page 1 worked: ")?;
     if let Some(factor) = factors.transmission_om {
-        print!(rt; "line 4 is {}, ", percent(heap, factor)?)?;
+        print!(rt; "line 4 is {}, ", Percent(factor))?;
     }
-    let expense = percent(heap, factors.expense.total)?;
-    let returned = percent(heap, factors.returns.total)?;
-    println!(rt; "line 9 is {expense}, line 14 is {returned}")
+    println!(rt;
+        "line 9 is {}, line 14 is {}",
+        Percent(factors.expense.total),
+        Percent(factors.returns.total)
+    )
 }
 
 /// Prices projects and says what became of each.
 pub fn price_all<T: Template>(
-    rt: &HostRuntime,
+    rt: &(impl Print + AllocGlobal),
     sheet: &WorkedSheet<T>,
     projects: &[(i64, Project)],
 ) -> io::Result<Vec<Row>> {
     let mut rows = Vec::new(rt.alloc());
-    for (number, project) in projects {
+    for &(number, project) in projects {
         print!(rt; "  project {number:<4}        ")?;
-        match sheet.price(*project) {
+        match sheet.price(project) {
             Ok(columns) => {
                 let requirement = columns.annual_revenue_requirement;
-                let text = thousands(rt.alloc(), requirement.into())?;
-                println!(rt; "annual revenue requirement {text}")?;
+                println!(rt;
+                    "annual revenue requirement {}",
+                    Thousands(requirement.into())
+                )?;
                 rows.push(Row {
-                    number: *number,
-                    project: *project,
+                    number,
+                    project,
                     columns,
                 })?;
             }
