@@ -1,62 +1,47 @@
 #![tactic(auto)]
 
+ghost use Rattle.std.specs.Prelude.{length};
+ghost use Rattle.std.specs.Iterator.{at_most};
+
 use filed_pages::write_pages;
 use std::io;
 use std::io::{Read, Write};
 
-/// A filing of the table: its name, its bytes and what follows it.
+/// A filing of the table.
 #[derive(Drop)]
 struct Case<'a> {
-    name: &'a [u8],
+    name: &'a str,
     file: &'a [u8],
-    rest: &'a [u8],
 }
 
-/// The first case of a table: a line with the number of bytes, a space and the name, and then the
-/// bytes.
-fn first_case(table: &[u8]) -> Option<Case> {
-    let mut length = 0usize;
-    let mut name_from = None;
-    for (at, byte) in table.iter().enumerate() {
-        match (*byte, name_from) {
-            (b'\n', Some(from)) => {
-                if from > at || at >= table.len() {
-                    return None;
-                }
-                let name = &table[from..at];
-                let rest = &table[at + 1..];
-                if length > rest.len() {
-                    return None;
-                }
-                let (file, rest) = rest.split_at(length);
-                return Some(Case { name, file, rest });
-            }
-            (b' ', None) => name_from = Some(at + 1),
-            (b'0'..=b'9', None) => {
-                length = length
-                    .saturating_mul(10)
-                    .saturating_add((*byte - b'0') as usize);
-            }
-            _ => {}
-        }
+/// The cases of a table. Each is a line with the number of bytes, a space and the name, and then
+/// the bytes.
+#[derive(Drop)]
+struct Cases<'a>(&'a [u8]);
+
+impl<'a> Iterator for Cases<'a> {
+    type Item = Case<'a>;
+
+    ghost remaining = { λ s. at_most (length s.0.now) };
+
+    fn next(&mut self) -> Option<Case<'a>> {
+        let table = self.0;
+        let end = table.iter().position(|byte| *byte == b'\n')?;
+        let (length, name) = str::from_utf8(&table[..end]).ok()?.split_once(' ')?;
+        let (file, rest) = table[end + 1..].split_at_checked(length.parse().ok()?)?;
+        self.0 = rest;
+        Some(Case { name, file })
     }
-    None
 }
 
 fn main(rt: HostRuntime) -> io::Result<()> {
     let mut table = Vec::new(rt.alloc());
     rt.stdin().read_to_end(&mut table)?;
-    let mut left = table.as_slice();
-    for _ in 0..table.len() {
-        let Some(case) = first_case(left) else {
-            return Ok(());
-        };
+    for Case { name, file } in Cases(&table) {
         let mut run = [b'?'; 4485];
-        let length = write_pages(case.file, &mut run);
-        rt.stdout().write_all(case.name)?;
-        rt.stdout().write_all(b"\n")?;
-        rt.stdout().write_all(&run[0..length])?;
-        left = case.rest;
+        let length = write_pages(file, &mut run);
+        println!(rt; "{name}")?;
+        rt.stdout().write_all(&run[..length])?;
     }
     Ok(())
 }
