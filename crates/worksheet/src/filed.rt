@@ -17,10 +17,10 @@ fn print_filed<T: Printed>(rt: &(impl Print + AllocGlobal), pages: &Pages<T>) ->
     print_pages(rt, &pages.sheet, &rows)
 }
 
-/// Prints both pages of the filing on standard input, or why it is refused.
-pub fn show_filing(rt: &(impl Print + Input + AllocGlobal)) -> io::Result<()> {
+/// Prints both pages of the filing that is read, or why it is refused.
+pub fn show_filing(rt: &(impl Print + AllocGlobal), input: impl Read + Drop) -> io::Result<()> {
     let mut file = Vec::new(rt.alloc());
-    rt.reader().take(ENOUGH).read_to_end(&mut file)?;
+    input.take(ENOUGH).read_to_end(&mut file)?;
     match read_pages(&file) {
         Ok(Filing::Mm(pages)) => print_filed(rt, &pages),
         Ok(Filing::Cc(pages)) => print_filed(rt, &pages),

@@ -18,7 +18,7 @@ fn show_usage(rt: &impl Print) -> io::Result<()> {
 
 fn main(rt: HostRuntime) -> io::Result<()> {
     match env::args(&rt)?.nth(1) {
-        None => filed::show_filing(&rt),
+        None => filed::show_filing(&rt, rt.stdin()),
         Some(word) if word.as_str() == "--example" => example::show_example(&rt),
         Some(_) => show_usage(&rt),
     }
