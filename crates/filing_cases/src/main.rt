@@ -5,7 +5,7 @@ ghost use Rattle.std.specs.Iterator.{at_most};
 
 use filed_pages::write_pages;
 use std::io;
-use std::io::{Read, Write};
+use std::io::Read;
 
 /// A filing of the table.
 #[derive(Drop)]
@@ -41,7 +41,7 @@ fn main(rt: HostRuntime) -> io::Result<()> {
         let mut run = [b'?'; 4485];
         let length = write_pages(file, &mut run);
         println!(rt; "{name}")?;
-        rt.stdout().write_all(&run[..length])?;
+        rt.write_all(&run[..length])?;
     }
     Ok(())
 }
