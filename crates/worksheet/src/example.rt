@@ -1,7 +1,7 @@
 use crate::layout::Printed;
 use crate::pages::print_pages;
 use crate::task::{enter_all, finish, price_all};
-use sheets::{AttachmentCc, AttachmentMm, OpenSheet, Project, WorkedSheet};
+use sheets::{AttachmentCc, AttachmentMm, OpenSheet, Project};
 use std::io;
 
 fn project(gross_plant: i64, accumulated_depreciation: i64, depreciation_expense: i64) -> Project {
@@ -12,15 +12,20 @@ fn project(gross_plant: i64, accumulated_depreciation: i64, depreciation_expense
     }
 }
 
-/// Prices the projects of a worked sheet and prints its two pages.
-fn print_priced<T: Printed>(
+/// Enters figures, finishes page 1, prices projects and prints both pages.
+fn work<T: Printed>(
     rt: &(impl Print + AllocGlobal),
-    sheet: &WorkedSheet<T>,
+    mut sheet: OpenSheet<T>,
+    figures: &[(&str, i64)],
     projects: &[(i64, Project)],
 ) -> io::Result<()> {
-    let rows = price_all(rt, sheet, projects)?;
+    enter_all(rt, &mut sheet, figures)?;
+    let Ok(sheet) = finish(rt, sheet)? else {
+        return Ok(());
+    };
+    let rows = price_all(rt, &sheet, projects)?;
     println!(rt)?;
-    print_pages(rt, sheet, &rows)
+    print_pages(rt, &sheet, &rows)
 }
 
 /// Attachment CC's printed example: finished too early, one figure refused, and then worked.
@@ -36,36 +41,21 @@ fn cc_task(rt: &(impl Print + AllocGlobal)) -> io::Result<()> {
         ("10", 47_594_197),
     ];
     enter_all(rt, &mut sheet, &first_figures)?;
-    match finish(rt, sheet)? {
-        Ok(_) => Ok(()),
-        Err(sheet) => cc_task_completed(rt, sheet),
-    }
-}
-
-fn cc_task_completed(
-    rt: &(impl Print + AllocGlobal),
-    mut sheet: OpenSheet<AttachmentCc>,
-) -> io::Result<()> {
-    enter_all(
-        rt,
-        &mut sheet,
-        &[("12", 10_000_000_001), ("12", 100_209_722)],
-    )?;
+    let Err(sheet) = finish(rt, sheet)? else {
+        return Ok(());
+    };
+    let last_figures = [("12", 10_000_000_001), ("12", 100_209_722)];
     let projects = [
         (1, project(20_000_000, 500_000, 800_000)),
         (2, project(10_000_000, 2_000_000, 200_000)),
         (3, project(15_000_000, 0, 0)),
     ];
-    match finish(rt, sheet)? {
-        Ok(sheet) => print_priced(rt, &sheet, &projects),
-        Err(_) => Ok(()),
-    }
+    work(rt, sheet, &last_figures, &projects)
 }
 
 /// An Attachment MM sheet with one project.
 fn mm_task(rt: &(impl Print + AllocGlobal)) -> io::Result<()> {
     println!(rt; "Attachment MM: a sheet with one Multi-Value Project")?;
-    let mut sheet = OpenSheet::<AttachmentMm>::new();
     let figures = [
         ("1", 1_000_000_000),
         ("1a", 400_000_000),
@@ -78,12 +68,8 @@ fn mm_task(rt: &(impl Print + AllocGlobal)) -> io::Result<()> {
         ("10", 18_000_000),
         ("12", 42_000_000),
     ];
-    enter_all(rt, &mut sheet, &figures)?;
     let projects = [(7, project(20_000_000, 2_000_000, 400_000))];
-    match finish(rt, sheet)? {
-        Ok(sheet) => print_priced(rt, &sheet, &projects),
-        Err(_) => Ok(()),
-    }
+    work(rt, OpenSheet::<AttachmentMm>::new(), &figures, &projects)
 }
 
 /// Works the built-in task and prints each action as it is done.

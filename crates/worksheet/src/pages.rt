@@ -150,8 +150,8 @@ fn column_sum(summed: Summed, rows: &[Row]) -> i128 {
 /// The heading of a band whose first column has this number.
 fn print_heading(rt: &impl Print, first_number: usize, columns: &[Column]) -> io::Result<()> {
     print!(rt; "{:>14}", "(2)")?;
-    for (place, _) in columns.iter().enumerate() {
-        print!(rt; "{:>16}", ColumnNumber(first_number.saturating_add(place)))?;
+    for number in first_number..first_number.saturating_add(columns.len()) {
+        print!(rt; "{:>16}", ColumnNumber(number))?;
     }
     println!(rt)?;
     let starts = ["          MTEP", "       Project", "Line    Number"];

@@ -1,7 +1,9 @@
 use std::fmt;
 use std::fmt::{Display, InlineText};
 
-/// The digits of an amount, a comma before every three of them.
+// The size of each `InlineText` below is that of the longest text of its type.
+
+/// The digits of an amount, at most 39, with a comma between groups of three.
 #[derive(Clone, Copy)]
 struct Grouped(u128);
 
@@ -63,4 +65,37 @@ impl Display for SubRow {
 
 fn letter(place: usize) -> char {
     char::from(b'a' + (place % 26) as u8)
+}
+
+#[cfg(test)]
+mod tests {
+    use super::*;
+    use std::test::Fail;
+
+    #[test]
+    fn amounts_and_factors_have_their_signs(rt: HostRuntime) -> Result<(), Fail> {
+        let amounts = [0, 999, -1_000, 1_234_567].map(Thousands);
+        let [none, small, below, large] = amounts;
+        let text = format!(in rt.alloc(); "{none} {small} {below} {large:>11}.")?;
+        assert_eq!(rt; text.as_str(), "0 999 -1,000   1,234,567.");
+        let text = format!(in rt.alloc(); "{}", Thousands(i128::MIN))?;
+        assert_eq!(rt;
+            text.as_str(),
+            "-170,141,183,460,469,231,731,687,303,715,884,105,728"
+        );
+        let text = format!(in rt.alloc(); "{} {:>8}", Percent(i64::MIN), Percent(-5))?;
+        assert_eq!(rt; text.as_str(), "-92233720368547758.08%   -0.05%");
+        Ok(())
+    }
+
+    #[test]
+    fn sub_rows_go_on_with_two_letters(rt: HostRuntime) -> Result<(), Fail> {
+        let rows = [0, 25, 26, 701].map(SubRow);
+        let [first, last_single, first_double, last_double] = rows;
+        let text = format!(in rt.alloc();
+            "{first:<3}{last_single:<3}{first_double:<3}{last_double}"
+        )?;
+        assert_eq!(rt; text.as_str(), "a  z  aa zz");
+        Ok(())
+    }
 }
