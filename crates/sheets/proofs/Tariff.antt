@@ -1,5 +1,5 @@
 -- The factors and columns follow the tariff's own words.
-use Rattle.std.proofs.Common.{◌≡◌, ℕ, ◌*◌, ◌<◌, ◌≤◌, true, List, [], ◌∷◌, map, ℤ, pos, ◌+ℤ◌, ◌-ℤ◌, ◌*ℤ◌, nat_abs, ◌<ℤ◌, IfOk, Some, None, Ok, Err, Option, Result, sym, refl, ap, ◌∙◌, subst, mul-le-mul_right, le_of_mul-le-mul_right, arith}
+use Rattle.std.proofs.Common.{◌≡◌, ℕ, ◌*◌, ◌<◌, ◌≤◌, Bool, true, List, [], ◌∷◌, map, ℤ, pos, ◌+ℤ◌, ◌-ℤ◌, ◌*ℤ◌, nat_abs, ◌<ℤ◌, IfOk, Some, None, Ok, Option, Result, sym, refl, ap, ◌∙◌, subst, mul-le-mul_right, le_of_mul-le-mul_right, arith}
 use native.Mathlib.Nat.{eq_of_mul-eq-mul_right}
 use Rattle.std.proofs.lemmas.Int.{ints}
 use Rattle.std.specs.Option.{option_map}
@@ -11,17 +11,12 @@ use Rattle.sheets.specs.declared.elements.ExpenseElements.{ExpenseElements}
 use Rattle.sheets.specs.declared.elements.ReturnElements.{ReturnElements}
 use Rattle.sheets.specs.declared.elements.TransmissionOm.{TransmissionOm}
 use Rattle.sheets.specs.declared.factors.Factors.{Factors}
-use Rattle.sheets.specs.declared.figures.Figures.{Figures}
-use Rattle.sheets.specs.declared.pricing.Columns.{Columns}
 use Rattle.sheets.specs.declared.pricing.Project.{Project}
 use Rattle.sheets.specs.declared.refusal.Refusal.{Refusal}
-use Rattle.sheets.specs.declared.refusal.Refusal.TheVariants.{LineMissing, BaseNotAboveZero, AdjustedOmOutOfRange, FactorOutOfRange, ProjectOutOfRange, RequirementOutOfRange}
+use Rattle.sheets.specs.declared.refusal.Refusal.TheVariants.{BaseNotAboveZero, AdjustedOmOutOfRange, FactorOutOfRange}
 use Rattle.sheets.specs.Elements.{total_expense, total_return}
-use Rattle.sheets.specs.Factors.{bases_above_zero, expense_factors, factor, factors_fit, factors_of, om_base_above_zero, om_factor, return_factors}
-use Rattle.sheets.specs.Outcomes.{within}
-use Rattle.sheets.specs.Pricing.{columns_of, net_plant_of, om_charge, priced, project_fits}
-use Rattle.sheets.specs.Rules.{Rules}
-use Rattle.sheets.specs.Sheets.{complete, finish_outcome, finished, seen, with_sheet}
+use Rattle.sheets.specs.Factors.{bases_above_zero, expense_factors, factor, factors_fit, factors_of, om_base_above_zero, om_factor, page_one, return_factors}
+use Rattle.sheets.specs.Pricing.{columns_of, net_plant_of, om_charge}
 use Rattle.sheets.specs.Tariff.{ExpenseFollows, NearestParts, OmChargeFollows, OmFollows, PageOneFollows, PageTwoFollows, ReturnFollows, exact_sum, single}
 use Rattle.sheets.proofs.Told.{above_told, bases_told, past}
 
@@ -129,28 +124,19 @@ factors_follow scale e h =
     }
 
 -- an accepted page 1 follows the tariff
-finished_follows : {L : Type 0} (scale : ℕ) (t : Rules L) (f : Figures) → IfOk (finished scale t f) (PageOneFollows scale (t.elements_of f))
-finished_follows scale t f =
-    let e = t.elements_of f in
+pub page_one_follows : (scale : ℕ) (e : Elements) (b : Bool) (r : Result Factors Refusal) → r ≡ page_one scale e b → IfOk r (PageOneFollows scale e)
+page_one_follows scale e b r same =
     let P = PageOneFollows scale e in
-    past P (complete t f) LineMissing _
-    (λ _. past P (bases_above_zero e) BaseNotAboveZero _
-    (λ k. past P (t.adjusted_om_fits f) AdjustedOmOutOfRange _
+    subst (λ x. IfOk x P) (sym same)
+    (past P (bases_above_zero e) BaseNotAboveZero _
+    (λ k. past P b AdjustedOmOutOfRange _
     (λ _. past P (factors_fit scale (factors_of scale e)) FactorOutOfRange (Ok (factors_of scale e)) (λ _. factors_follow scale e k))))
-
-of_worked_sheet : (P : Factors → Type 0) (f g : Figures) (p : Factors) (x : Result Factors Refusal) → IfOk x P → Ok (g, p) ≡ with_sheet f x → P p
-of_worked_sheet P f g p (Ok q) h e = let pair : ◌≡◌ {A = Figures × Factors} (g, p) (f, q) = cc in subst P (sym (ap (λ (x : Figures × Factors). x.1) pair)) h
-of_worked_sheet P f g p (Err why) h e = let z : ◌≡◌ {A = ℕ} 0 1 = cc in absurd (omega arith)
-
-pub finish_follows : {L W E : Type 0} (scale : ℕ) (t : Rules L) (f : Figures) (of_worked : W → Figures × Factors) (of_refused : E → Refusal × Figures) (r : Result W E) → seen of_worked of_refused r ≡ finish_outcome scale t f → IfOk r (λ w. PageOneFollows scale (t.elements_of f) (of_worked w).1)
-finish_follows scale t f of_worked of_refused (Ok w) h = of_worked_sheet (PageOneFollows scale (t.elements_of f)) f (of_worked w).0 (of_worked w).1 (finished scale t f) (finished_follows scale t f) h
-finish_follows scale t f of_worked of_refused (Err e) h = tt
 
 om_charge_follows : (scale : ℕ) (o : Option ℤ) (base : ℤ) → 0 < scale → OmChargeFollows scale o base (om_charge scale o base)
 om_charge_follows scale (Some factor) base p = rounded_is_nearest (base *ℤ factor) scale p
 om_charge_follows scale None base p = refl
 
-columns_follow : (scale : ℕ) (p : Factors) (om_base : Project → ℤ) (j : Project) → 0 < scale → PageTwoFollows scale p om_base j (columns_of scale p om_base j)
+pub columns_follow : (scale : ℕ) (p : Factors) (om_base : Project → ℤ) (j : Project) → 0 < scale → PageTwoFollows scale p om_base j (columns_of scale p om_base j)
 columns_follow scale p om_base j h = record {
   transmission_om_expense_is_nearest = om_charge_follows scale p.transmission_om (om_base j) h;
   other_expense_is_nearest = rounded_is_nearest (j.gross_plant *ℤ p.expense.total) scale h;
@@ -159,11 +145,3 @@ columns_follow scale p om_base j h = record {
   depreciation_is_the_projects_own = refl;
   requirement_is_the_sum = refl;
 }
-
--- a priced project follows the tariff
-pub priced_follows : (scale : ℕ) (p : Factors) (om_base : Project → ℤ) (j : Project) (r : Result Columns Refusal) → 0 < scale → r ≡ priced scale p om_base j → IfOk r (PageTwoFollows scale p om_base j)
-priced_follows scale p om_base j r h e =
-    let P = PageTwoFollows scale p om_base j in
-    let columns = columns_of scale p om_base j in
-    subst (λ x. IfOk x P) (sym e)
-    (past P (project_fits j) ProjectOutOfRange _ (λ _. past P (within (pos 0) (pos 100000000) columns.annual_revenue_requirement) RequirementOutOfRange (Ok columns) (λ _. columns_follow scale p om_base j h)))

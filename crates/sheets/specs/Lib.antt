@@ -5,6 +5,7 @@ pub mod Elements
 pub mod Rules
 pub mod Attachments
 pub mod Factors
+pub mod Worked
 pub mod Sheets
 pub mod Pricing
 pub mod Tariff

@@ -9,6 +9,7 @@ use Rattle.sheets.specs.Factors.{page_one}
 use Rattle.sheets.specs.Figures.{amount_fits, figure_in, with_figure}
 use Rattle.sheets.specs.Outcomes.{ask, asked}
 use Rattle.sheets.specs.Rules.{Rules, line_labelled}
+use Rattle.sheets.specs.Worked.{Worked}
 
 -- what entering answers, and the figures after it
 pub record Entry : Type 0 where
@@ -51,18 +52,13 @@ worked scale t f = page_one scale (t.elements_of f) (t.adjusted_om_fits f)
 abbrev pub finished : {L : Type 0} → ℕ → Rules L → Figures → Result Factors Refusal
 finished scale t f = asked (ask (complete t f) LineMissing ∷ []) (worked scale t f)
 
--- what finishing gives: the worked sheet's figures and factors, or the refusal and the open sheet's figures
+-- what finishing gives: the worked sheet, or the refusal and the open sheet's figures
 abbrev pub Finish : Type 0
-Finish = Result (Figures × Factors) (Refusal × Figures)
+Finish = Result Worked (Refusal × Figures)
 
 abbrev pub with_sheet : Figures → Result Factors Refusal → Finish
-with_sheet f (Ok p) = Ok (f, p)
+with_sheet f (Ok p) = Ok (record { figures = f; factors = p })
 with_sheet f (Err why) = Err (why, f)
 
 abbrev pub finish_outcome : {L : Type 0} → ℕ → Rules L → Figures → Finish
 finish_outcome scale t f = with_sheet f (finished scale t f)
-
--- the same of a call's answer, by what is read of a worked sheet and of a refusal
-abbrev pub seen : {W E : Type 0} → (W → Figures × Factors) → (E → Refusal × Figures) → Result W E → Finish
-seen of_worked of_refused (Ok w) = Ok (of_worked w)
-seen of_worked of_refused (Err e) = Err (of_refused e)

@@ -1,16 +1,15 @@
-use Rattle.std.proofs.Common.{arith}
+use Rattle.std.proofs.Common.{sym, arith, SFits, w64, rules}
+use Rattle.std.proofs.lemmas.Int.{to_z-of_z}
 use Rattle.sheets.specs.Factors.{hundredths}
-use Rattle.sheets.proofs.Reach.{priced_in_range}
-use Rattle.sheets.proofs.Tariff.{priced_follows}
+use Rattle.sheets.proofs.Reach.{columns_in_range}
+use Rattle.sheets.proofs.Tariff.{columns_follow}
+use Rattle.sheets.proofs.Told.{project_told}
 use Rattle.sheets.proofs.worked_sheet.WorkedSheet.price.Goals as goal
 
-pub returns : goal.returns
-returns g c =
-    let sheet = c.args.self.now in
-    let om_base = g.T.Template.rules.om_base in
-    let outcome = c.asked_columns.ensures in
-    record {
-      outcome = outcome;
-      follows_the_tariff = priced_follows hundredths sheet.factors om_base c.args.project _ (omega arith) outcome;
-      columns_in_range = priced_in_range sheet.factors om_base c.args.project _ sheet.fits outcome;
-    }
+pub returns-clause-follows_the_tariff : goal.returns-clause-follows_the_tariff
+returns-clause-follows_the_tariff g c = rw c.columns-columns.ensures.value (columns_follow hundredths _ _ _ (omega arith))
+
+pub returns-clause-columns_in_range : goal.returns-clause-columns_in_range
+returns-clause-columns_in_range g c =
+    let fits : SFits w64 c.columns-columns.result.annual_revenue_requirement = search rules in
+    columns_in_range hundredths _ _ c.args.project c.columns-columns.result (returns-clause-follows_the_tariff g c) (project_told c.args.project (sym c.if-not-project_fits.ensures)) c.columns-columns.ensures.bound (sym (simp to_z-of_z at c.if-not-within.ensures))

@@ -1,6 +1,6 @@
 use Rattle.std.proofs.Common.{◌≡◌, drop}
 use Rattle.sheets.specs.Sheets.{all_entered}
-use Rattle.sheets.proofs.open_sheet.calls.complete.Given as goal
+use Rattle.sheets.proofs.open_sheet.complete.Given as goal
 
 -- the lines before this place are entered
 abbrev pub invariant-loop-place : goal.invariant-loop-place

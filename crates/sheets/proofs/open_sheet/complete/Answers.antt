@@ -2,8 +2,8 @@ use Rattle.std.proofs.Common.{◌≡◌, ◌+◌, true, false, ◌&&◌, drop, i
 use Rattle.sheets.specs.Figures.{figure_in}
 use Rattle.sheets.specs.Sheets.{all_entered}
 use Rattle.sheets.proofs.Entered.{entered_at, entered_none, entered_past}
-use Rattle.sheets.proofs.open_sheet.calls.complete.Goals as goal
-use Rattle.sheets.proofs.open_sheet.calls.complete.Goals.{in-Some+else-is_none, in_default}
+use Rattle.sheets.proofs.open_sheet.complete.Goals as goal
+use Rattle.sheets.proofs.open_sheet.complete.Goals.{in-Some+else-is_none, in_default}
 
 pub returns-then-is_none : goal.returns-then-is_none
 returns-then-is_none g c =

@@ -3,7 +3,7 @@ use Rattle.amounts.proofs.Laws.{rounded_within}
 use Rattle.amounts.proofs.Products.{product_within}
 use Rattle.amounts.specs.Rounding.{rounded}
 use Rattle.std.proofs.lemmas.Int.{ints, to_z-of_z}
-use Rattle.sheets.proofs.worked_sheet.calls.charge.Goals as goal
+use Rattle.sheets.proofs.worked_sheet.charge.Goals as goal
 
 pub returns : goal.returns
 returns c =
