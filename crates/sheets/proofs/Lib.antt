@@ -1,4 +1,3 @@
-pub mod Entered
 pub mod Ranges
 pub mod Reach
 pub mod Tariff

@@ -1,5 +1,7 @@
 -- What a template says: its lines, the cost elements that they make, and what its line 4 multiplies.
-use Rattle.std.specs.Prelude.{ℕ, Bool, true, false, cond, ◌&&◌, List, [], ◌∷◌, ℤ, Some, None, Option, ◌==◌}
+use Rattle.std.specs.Prelude.{ℕ, Bool, List, ℤ, Option}
+use Rattle.std.specs.List.{find}
+use Rattle.std.specs.Str.{bytes_eq}
 use Rattle.sheets.specs.declared.elements.Elements.{Elements}
 use Rattle.sheets.specs.declared.figures.Figure.{Figure}
 use Rattle.sheets.specs.declared.figures.Figures.{Figures}
@@ -17,13 +19,6 @@ pub record Rules (L : Type 0) : Type 0 where
   -- what line 4 multiplies, of a project
   pub om_base : Project → ℤ
 
-abbrev same_bytes : List ℕ → List ℕ → Bool
-same_bytes [] [] = true
-same_bytes [] (y ∷ ys) = false
-same_bytes (x ∷ xs) [] = false
-same_bytes (x ∷ xs) (y ∷ ys) = x == y && same_bytes xs ys
-
 -- the first of these lines that is printed with this label, byte for byte
 abbrev pub line_labelled : {L : Type 0} → (L → List ℕ) → List L → List ℕ → Option L
-line_labelled label_of [] s = None
-line_labelled label_of (l ∷ ls) s = cond (same_bytes (label_of l) s) (Some l) (line_labelled label_of ls s)
+line_labelled label_of lines label = find (λ line. bytes_eq (label_of line) label) lines

@@ -1,5 +1,6 @@
 -- Entering figures and finishing page 1.
-use Rattle.std.specs.Prelude.{◌≡◌, ℕ, Bool, true, cond, ◌&&◌, List, [], ◌∷◌, ℤ, is_some, Some, None, Ok, Err, Option, Result}
+use Rattle.std.specs.Prelude.{◌≡◌, ℕ, Bool, cond, List, [], ◌∷◌, ℤ, is_some, Some, None, Ok, Err, Option, Result}
+use Rattle.std.specs.List.{list_all}
 use Rattle.sheets.specs.declared.factors.Factors.{Factors}
 use Rattle.sheets.specs.declared.figures.Figure.{Figure}
 use Rattle.sheets.specs.declared.figures.Figures.{Figures}
@@ -37,12 +38,8 @@ abbrev pub entered_labelled : {L : Type 0} → Rules L → List ℕ → ℤ → 
 entered_labelled t label x f = entered_at t.figure_of (line_labelled t.label_of t.lines label) x f
 
 -- every line has an amount
-abbrev pub all_entered : {L : Type 0} → (L → Figure) → List L → Figures → Bool
-all_entered figure_of [] f = true
-all_entered figure_of (l ∷ ls) f = is_some (figure_in (figure_of l) f) && all_entered figure_of ls f
-
 abbrev pub complete : {L : Type 0} → Rules L → Figures → Bool
-complete t f = all_entered t.figure_of t.lines f
+complete t f = list_all (λ line. is_some (figure_in (t.figure_of line) f)) t.lines
 
 -- page 1 of figures that are all entered
 abbrev pub worked : {L : Type 0} → ℕ → Rules L → Figures → Result Factors Refusal

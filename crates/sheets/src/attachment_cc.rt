@@ -49,8 +49,6 @@ pub enum CcLine {
 impl Template for AttachmentCc {
     type Line = CcLine;
 
-    const LINES: usize = 7;
-
     ghost rules = { cc_rules };
 
     ghost sums = { λ _ _. Unit {0} };
@@ -61,33 +59,27 @@ impl Template for AttachmentCc {
 
     ghost base = { Prim.search rules };
 
-    fn line_count() -> usize {
-        Self::LINES
+    fn lines() -> &'static [CcLine] {
+        &[
+            CcLine::GrossPlant,
+            CcLine::NetPlant,
+            CcLine::TotalOm,
+            CcLine::GeneralDepreciation,
+            CcLine::OtherTaxes,
+            CcLine::IncomeTaxes,
+            CcLine::ReturnOnRateBase,
+        ]
     }
 
-    fn line_at(place: usize) -> Option<CcLine> {
-        match place {
-            0 => Some(CcLine::GrossPlant),
-            1 => Some(CcLine::NetPlant),
-            2 => Some(CcLine::TotalOm),
-            3 => Some(CcLine::GeneralDepreciation),
-            4 => Some(CcLine::OtherTaxes),
-            5 => Some(CcLine::IncomeTaxes),
-            6 => Some(CcLine::ReturnOnRateBase),
-            _ => None,
-        }
-    }
-
-    fn labelled(label: &[u8]) -> Option<CcLine> {
-        match label {
-            b"1" => Some(CcLine::GrossPlant),
-            b"2" => Some(CcLine::NetPlant),
-            b"3" => Some(CcLine::TotalOm),
-            b"5" => Some(CcLine::GeneralDepreciation),
-            b"7" => Some(CcLine::OtherTaxes),
-            b"10" => Some(CcLine::IncomeTaxes),
-            b"12" => Some(CcLine::ReturnOnRateBase),
-            _ => None,
+    fn label(line: CcLine) -> &'static [u8] {
+        match line {
+            CcLine::GrossPlant => b"1",
+            CcLine::NetPlant => b"2",
+            CcLine::TotalOm => b"3",
+            CcLine::GeneralDepreciation => b"5",
+            CcLine::OtherTaxes => b"7",
+            CcLine::IncomeTaxes => b"10",
+            CcLine::ReturnOnRateBase => b"12",
         }
     }
 

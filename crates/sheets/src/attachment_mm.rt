@@ -72,8 +72,6 @@ fn transmission_om(figures: &Figures) -> TransmissionOm
 impl Template for AttachmentMm {
     type Line = MmLine;
 
-    const LINES: usize = 10;
-
     ghost rules = { mm_rules };
 
     ghost sums = { MmLinesAddUp };
@@ -106,39 +104,33 @@ impl Template for AttachmentMm {
 
     ghost base = { Prim.search rules };
 
-    fn line_count() -> usize {
-        Self::LINES
+    fn lines() -> &'static [MmLine] {
+        &[
+            MmLine::GrossPlant,
+            MmLine::AccumulatedDepreciation,
+            MmLine::TotalOm,
+            MmLine::TransmissionOm,
+            MmLine::LseExpenses,
+            MmLine::Account565,
+            MmLine::GeneralDepreciation,
+            MmLine::OtherTaxes,
+            MmLine::IncomeTaxes,
+            MmLine::ReturnOnRateBase,
+        ]
     }
 
-    fn line_at(place: usize) -> Option<MmLine> {
-        match place {
-            0 => Some(MmLine::GrossPlant),
-            1 => Some(MmLine::AccumulatedDepreciation),
-            2 => Some(MmLine::TotalOm),
-            3 => Some(MmLine::TransmissionOm),
-            4 => Some(MmLine::LseExpenses),
-            5 => Some(MmLine::Account565),
-            6 => Some(MmLine::GeneralDepreciation),
-            7 => Some(MmLine::OtherTaxes),
-            8 => Some(MmLine::IncomeTaxes),
-            9 => Some(MmLine::ReturnOnRateBase),
-            _ => None,
-        }
-    }
-
-    fn labelled(label: &[u8]) -> Option<MmLine> {
-        match label {
-            b"1" => Some(MmLine::GrossPlant),
-            b"1a" => Some(MmLine::AccumulatedDepreciation),
-            b"3" => Some(MmLine::TotalOm),
-            b"3a" => Some(MmLine::TransmissionOm),
-            b"3b" => Some(MmLine::LseExpenses),
-            b"3c" => Some(MmLine::Account565),
-            b"5" => Some(MmLine::GeneralDepreciation),
-            b"7" => Some(MmLine::OtherTaxes),
-            b"10" => Some(MmLine::IncomeTaxes),
-            b"12" => Some(MmLine::ReturnOnRateBase),
-            _ => None,
+    fn label(line: MmLine) -> &'static [u8] {
+        match line {
+            MmLine::GrossPlant => b"1",
+            MmLine::AccumulatedDepreciation => b"1a",
+            MmLine::TotalOm => b"3",
+            MmLine::TransmissionOm => b"3a",
+            MmLine::LseExpenses => b"3b",
+            MmLine::Account565 => b"3c",
+            MmLine::GeneralDepreciation => b"5",
+            MmLine::OtherTaxes => b"7",
+            MmLine::IncomeTaxes => b"10",
+            MmLine::ReturnOnRateBase => b"12",
         }
     }
 

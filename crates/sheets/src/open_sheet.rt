@@ -34,14 +34,9 @@ impl<T: Template> Model for OpenSheet<T> {
 fn complete<T: Template>(figures: &Figures) -> bool
     ensures { result ≡ is_complete T.rules figures.now }
 {
-    for place in 0..T::line_count() {
-        if let Some(line) = T::line_at(place) {
-            if figures.get(T::figure(line)).is_none() {
-                return false;
-            }
-        }
-    }
-    true
+    T::lines()
+        .iter()
+        .all(|line| figures.get(T::figure(*line)).is_some())
 }
 
 /// Page 1 of figures that are all entered.

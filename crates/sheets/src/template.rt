@@ -15,10 +15,7 @@ use crate::pricing::Project;
 /// A template of page 1 and page 2: its lines, and what its factors and columns are made of.
 pub trait Template {
     /// A line of page 1 that takes a figure.
-    type Line;
-
-    /// How many such lines there are.
-    const LINES: usize;
+    type Line: Copy + 'static;
 
     // the lines, the cost elements and what line 4 multiplies
     ghost rules: { Rules Self.Line };
@@ -26,17 +23,37 @@ pub trait Template {
     // the sums that the printed page shows between its lines
     ghost sums: { Entered → Cost → Type 0 };
 
-    /// The constant, as a contract can name it.
-    fn line_count() -> usize
-        ensures { result ≡ length rules.lines };
+    /// The lines in their order.
+    fn lines() -> &'static [Self::Line]
+        ensures { result.now ≡ rules.lines };
+
+    /// What is printed as the number of a line.
+    fn label(line: Self::Line) -> &'static [u8]
+        ensures { result.now ≡ rules.label_of line };
+
+    /// How many lines there are.
+    final fn line_count() -> usize
+        ensures { result ≡ length rules.lines }
+    {
+        Self::lines().len()
+    }
 
     /// The line at a place of the page, from 0.
-    fn line_at(place: usize) -> Option<Self::Line>
-        ensures { result ≡ slice_get rules.lines place };
+    final fn line_at(place: usize) -> Option<Self::Line>
+        ensures { result ≡ slice_get rules.lines place }
+    {
+        Self::lines().get(place).copied()
+    }
 
     /// The line with this printed label.
-    fn labelled(label: &[u8]) -> Option<Self::Line>
-        ensures { result ≡ line_labelled rules.label_of rules.lines label.now };
+    final fn labelled(label: &[u8]) -> Option<Self::Line>
+        ensures { result ≡ line_labelled rules.label_of rules.lines label.now }
+    {
+        Self::lines()
+            .iter()
+            .copied()
+            .find(|line| Self::label(*line) == label)
+    }
 
     /// The figure that a line holds.
     fn figure(line: Self::Line) -> Figure
