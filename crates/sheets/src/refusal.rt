@@ -7,14 +7,14 @@ use std::fmt;
 /// Why a call on a sheet was refused.
 #[derive(Clone, Copy, PartialEq, Eq, Debug)]
 pub enum Refusal {
-    UnknownLine,
-    AmountOutOfRange,
-    LineMissing,
-    BaseNotAboveZero,
-    AdjustedOmOutOfRange,
-    FactorOutOfRange,
-    ProjectOutOfRange,
-    RequirementOutOfRange,
+    UnknownLine = 21,
+    AmountOutOfRange = 22,
+    LineMissing = 23,
+    BaseNotAboveZero = 24,
+    AdjustedOmOutOfRange = 25,
+    FactorOutOfRange = 26,
+    ProjectOutOfRange = 27,
+    RequirementOutOfRange = 28,
 }
 
 impl Refusal {
@@ -22,16 +22,7 @@ impl Refusal {
     pub fn number(self) -> u8
         ensures { result ≡ number_of self }
     {
-        match self {
-            Refusal::UnknownLine => 21,
-            Refusal::AmountOutOfRange => 22,
-            Refusal::LineMissing => 23,
-            Refusal::BaseNotAboveZero => 24,
-            Refusal::AdjustedOmOutOfRange => 25,
-            Refusal::FactorOutOfRange => 26,
-            Refusal::ProjectOutOfRange => 27,
-            Refusal::RequirementOutOfRange => 28,
-        }
+        self as u8
     }
 }
 
