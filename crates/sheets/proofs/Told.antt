@@ -1,5 +1,5 @@
 -- What the questions tell once they are answered yes.
-use Rattle.std.proofs.Common.{◌≡◌, ◌≤◌, Bool, true, false, cond, ◌&&◌, ℤ, pos, neg_ℤ, nat_abs, ◌≤ℤ◌, ◌<ℤ◌, IfOk, Err, Result, refl, arith}
+use Rattle.std.proofs.Common.{◌≡◌, ℕ, ◌≤◌, Bool, true, false, cond, ◌&&◌, ℤ, pos, neg_ℤ, nat_abs, ◌≤ℤ◌, ◌<ℤ◌, IfOk, Ok, Err, Result, refl, arith}
 use lib.Signed.{le_z}
 use Rattle.std.proofs.lemmas.Int.{ints}
 use Rattle.std.proofs.lemmas.Bool.{and_parts}
@@ -7,7 +7,7 @@ use Rattle.sheets.specs.declared.elements.Elements.{Elements}
 use Rattle.sheets.specs.declared.factors.Factors.{Factors}
 use Rattle.sheets.specs.declared.pricing.Project.{Project}
 use Rattle.sheets.specs.declared.refusal.Refusal.{Refusal}
-use Rattle.sheets.specs.Factors.{above_zero, bases_above_zero, factor_fits, factors_fit, hundredths, om_base_above_zero, om_factor_fits}
+use Rattle.sheets.specs.Factors.{above_zero, based, bases_above_zero, factor_fits, factors_fit, hundredths, om_base_above_zero, om_factor_fits}
 use Rattle.sheets.specs.Outcomes.{within}
 use Rattle.sheets.specs.Pricing.{ProjectFits, project_fits}
 
@@ -48,3 +48,8 @@ project_told j h =
     let depreciation = within_told (pos 0) most j.depreciation_expense q.0 in
     let accumulated = within_told (pos 0) j.gross_plant j.accumulated_depreciation q.1 in
     record { accumulated_from_zero = accumulated.0; accumulated_to_gross = accumulated.1; gross_to_limit = gross.1; depreciation_from_zero = depreciation.0; depreciation_to_limit = depreciation.1 }
+
+-- what is worked out, was so where the bases are above 0
+pub based_told : {A : Type 0} (b : Bool) (x y : A) → Ok x ≡ based b y → (b ≡ true) × (x ≡ y)
+based_told true x y e = (refl, cc)
+based_told false x y e = let z : ◌≡◌ {A = ℕ} 0 1 = cc in absurd (omega arith)

@@ -5,13 +5,9 @@ use Rattle.sheets.specs.declared.elements.ExpenseElements.{ExpenseElements}
 use Rattle.sheets.specs.declared.elements.ReturnElements.{ReturnElements}
 use Rattle.sheets.specs.declared.elements.TransmissionOm.{TransmissionOm}
 
--- lines 5 and 7
-abbrev pub depreciation_and_taxes : ExpenseElements → ℤ
-depreciation_and_taxes e = e.general_depreciation +ℤ e.other_taxes
-
 -- what line 9 divides by gross plant
 abbrev pub total_expense : ExpenseElements → ℤ
-total_expense e = e.other_om +ℤ depreciation_and_taxes e
+total_expense e = e.other_om +ℤ e.general_depreciation +ℤ e.other_taxes
 
 -- what line 14 divides by net plant
 abbrev pub total_return : ReturnElements → ℤ

@@ -57,6 +57,10 @@ om_base_above_zero None = true
 abbrev pub bases_above_zero : Elements → Bool
 bases_above_zero e = om_base_above_zero e.transmission_om && (above_zero e.expense.gross_plant && above_zero e.returns.net_plant)
 
+-- what is worked out where the bases are above 0
+abbrev pub based : {A : Type 0} → Bool → A → Result A Refusal
+based b x = asked (ask b BaseNotAboveZero ∷ []) (Ok x)
+
 -- 1,000 percent either way
 abbrev pub factor_fits : ℕ → ℤ → Bool
 factor_fits scale x = within (neg_ℤ (pos (10 * scale))) (pos (10 * scale)) x

@@ -158,8 +158,7 @@ impl Template for AttachmentMm {
     }
 
     fn adjusted_om_fits(figures: &Figures) -> bool {
-        let adjusted = adjusted_om(figures);
-        0 <= adjusted && adjusted <= figures.amount(Figure::TotalOm)
+        (0..=figures.amount(Figure::TotalOm)).contains(&adjusted_om(figures))
     }
 
     fn om_base(project: &Project) -> i64 {

@@ -30,7 +30,7 @@ impl Figure {
             Figure::IncomeTaxes => -LARGEST_AMOUNT,
             _ => 0,
         };
-        lowest <= amount && amount <= LARGEST_AMOUNT
+        (lowest..=LARGEST_AMOUNT).contains(&amount)
     }
 }
 
@@ -113,9 +113,6 @@ impl Figures {
         ensures value { result ≡ amount_of figure self.now }
         ensures bound { unsigned_abs result ≤ 2 ^ 63 }
     {
-        match self.get(figure) {
-            Some(amount) => amount.into(),
-            None => 0,
-        }
+        self.get(figure).unwrap_or(0).into()
     }
 }
