@@ -1,10 +1,10 @@
-ghost use Rattle.std.specs.Prelude.{◌≡◌, ◌≤◌, true, ◌+ℤ◌, ◌*ℤ◌, IfOk, unsigned_abs};
+ghost use Rattle.std.specs.Prelude.{◌≡◌, ◌≤◌, true, pos, IfOk, unsigned_abs};
 ghost use Rattle.std.specs.NonZero.{non_zero_u64_get};
-ghost use Rattle.sheets.specs.Factors.{factors_fit, hundredths, om_factor_fits};
+ghost use Rattle.sheets.specs.Factors.{factors_fit, hundredths};
 ghost use Rattle.sheets.specs.Figures.{figure_in};
-ghost use Rattle.sheets.specs.Outcomes.{within as is_within};
+ghost use Rattle.sheets.specs.Outcomes.{within};
 ghost use Rattle.sheets.specs.Tariff.{PageTwoFollows};
-ghost use Rattle.sheets.specs.Pricing.{ColumnsInRange, ProjectFits, charge as charge_of, columns_of, net_plant_of, om_charge, priced, project_fits};
+ghost use Rattle.sheets.specs.Pricing.{ColumnsInRange, ProjectFits, charge as charge_of, columns_of, om_charge, priced, project_fits};
 
 use crate::elements::Elements;
 use crate::factors::Factors;
@@ -40,106 +40,37 @@ impl<T: Template> Model for WorkedSheet<T> {
 /// The largest annual revenue requirement, in dollars.
 const LARGEST_REQUIREMENT: i64 = 100_000_000;
 
-fn within(low: i64, high: i64, amount: i64) -> bool
-    ensures { result ≡ is_within low high amount }
-{
-    low <= amount && amount <= high
-}
-
-fn project_fits(project: &Project) -> bool
-    ensures { result ≡ project_fits project.now }
-{
-    within(0, LARGEST_AMOUNT, project.gross_plant)
-        && within(0, LARGEST_AMOUNT, project.depreciation_expense)
-        && within(0, project.gross_plant, project.accumulated_depreciation)
-}
-
 /// The scale of a factor as a divisor.
+// A function, since no constant's value may call `new`.
 fn scale() -> NonZeroU64
     ensures { non_zero_u64_get result ≡ hundredths }
 {
-    NonZeroU64::new(SCALE as u64).unwrap()
+    NonZeroU64::new(SCALE.unsigned_abs()).unwrap()
 }
 
-fn product(amount: i64, factor: i64) -> i64
-    requires { (unsigned_abs amount ≤ 10000000000) × (unsigned_abs factor ≤ 100000) }
-    ensures { result ≡ amount *ℤ factor }
+/// Whether the amounts of a project are in their ranges.
+fn project_fits(project: &Project) -> bool
+    ensures { result ≡ project_fits project.now }
 {
-    amount * factor
+    (0..=LARGEST_AMOUNT).contains(&project.gross_plant)
+        && (0..=LARGEST_AMOUNT).contains(&project.depreciation_expense)
+        && (0..=project.gross_plant).contains(&project.accumulated_depreciation)
+}
+
+/// Whether the annual revenue requirement is in its range.
+fn requirement_fits(columns: &Columns) -> bool
+    ensures { result ≡ within (pos 0) (pos 100000000) columns.now.annual_revenue_requirement }
+{
+    (0..=LARGEST_REQUIREMENT).contains(&columns.annual_revenue_requirement)
 }
 
 /// An amount times a factor, to the nearest dollar.
-fn nearest_dollar(amount: i64, factor: i64) -> i64
-    requires { (unsigned_abs amount ≤ 10000000000) × (unsigned_abs factor ≤ 100000) }
-    ensures { result ≡ charge_of hundredths amount factor }
-{
-    rounded(product(amount, factor), scale())
-}
-
-/// The same, and how large it can be.
 fn charge(amount: i64, factor: i64) -> i64
     requires { (unsigned_abs amount ≤ 10000000000) × (unsigned_abs factor ≤ 100000) }
     ensures value { result ≡ charge_of hundredths amount factor }
     ensures bound { unsigned_abs result ≤ 100000000000 }
 {
-    nearest_dollar(amount, factor)
-}
-
-/// What line 4, where the template has one, charges on its base.
-fn om_charge(base: i64, factor: Option<i64>) -> i64
-    requires { (unsigned_abs base ≤ 10000000000) × (om_factor_fits hundredths factor ≡ true) }
-    ensures value { result ≡ om_charge hundredths factor base }
-    ensures bound { unsigned_abs result ≤ 100000000000 }
-{
-    match factor {
-        Some(factor) => charge(base, factor),
-        None => 0,
-    }
-}
-
-/// What line 9 charges on gross plant.
-fn other_charge(project: &Project, factor: i64) -> i64
-    requires { (ProjectFits project.now) × (unsigned_abs factor ≤ 100000) }
-    ensures value { result ≡ charge_of hundredths project.now.gross_plant factor }
-    ensures bound { unsigned_abs result ≤ 100000000000 }
-{
-    charge(project.gross_plant, factor)
-}
-
-/// What line 14 charges on net plant.
-fn return_charge(project: &Project, factor: i64) -> i64
-    requires { (ProjectFits project.now) × (unsigned_abs factor ≤ 100000) }
-    ensures value { result ≡ charge_of hundredths (net_plant_of project.now) factor }
-    ensures bound { unsigned_abs result ≤ 100000000000 }
-{
-    let net_plant = project.gross_plant - project.accumulated_depreciation;
-    charge(net_plant, factor)
-}
-
-/// Column 9 of Attachment MM: both expenses.
-fn expense_charge(om: i64, other: i64) -> i64
-    requires { (unsigned_abs om ≤ 100000000000) × (unsigned_abs other ≤ 100000000000) }
-    ensures value { result ≡ om +ℤ other }
-    ensures bound { unsigned_abs result ≤ 200000000000 }
-{
-    om + other
-}
-
-/// Both charges.
-fn both_charges(expense: i64, returned: i64) -> i64
-    requires { (unsigned_abs expense ≤ 200000000000) × (unsigned_abs returned ≤ 100000000000) }
-    ensures value { result ≡ expense +ℤ returned }
-    ensures bound { unsigned_abs result ≤ 300000000000 }
-{
-    expense + returned
-}
-
-/// Column 14 of Attachment MM: both charges and the depreciation expense.
-fn requirement(charges: i64, depreciation: i64) -> i64
-    requires { (unsigned_abs charges ≤ 300000000000) × (unsigned_abs depreciation ≤ 10000000000) }
-    ensures { result ≡ charges +ℤ depreciation }
-{
-    charges + depreciation
+    rounded(amount * factor, scale())
 }
 
 impl<T: Template> WorkedSheet<T> {
@@ -155,12 +86,14 @@ impl<T: Template> WorkedSheet<T> {
         }
     }
 
-    fn om_expense(&self, project: &Project) -> i64
-        requires { ProjectFits project.now }
-        ensures value { result ≡ om_charge hundredths self.now.factors.transmission_om (T.rules.om_base project.now) }
+    /// What line 4, where the template has one, charges on its base.
+    fn om_charge(&self, base: i64) -> i64
+        requires { unsigned_abs base ≤ 10000000000 }
+        ensures value { result ≡ om_charge hundredths self.now.factors.transmission_om base }
         ensures bound { unsigned_abs result ≤ 100000000000 }
     {
-        om_charge(T::om_base(project), self.factors.transmission_om)
+        let om_factor = self.factors.transmission_om;
+        om_factor.map_or(0, |factor| charge(base, factor))
     }
 
     fn columns(&self, project: &Project) -> Columns
@@ -168,18 +101,17 @@ impl<T: Template> WorkedSheet<T> {
         ensures value { result ≡ columns_of hundredths self.now.factors T.rules.om_base project.now }
         ensures bound { unsigned_abs result.annual_return_charge ≤ 100000000000 }
     {
-        let om = self.om_expense(project);
-        let other = other_charge(project, self.factors.expense.total);
-        let expense = expense_charge(om, other);
-        let returned = return_charge(project, self.factors.returns.total);
-        let charges = both_charges(expense, returned);
+        let om = self.om_charge(T::om_base(project));
+        let other = charge(project.gross_plant, self.factors.expense.total);
+        let net_plant = project.gross_plant - project.accumulated_depreciation;
+        let returned = charge(net_plant, self.factors.returns.total);
         Columns {
             transmission_om_expense: om,
             other_expense: other,
-            annual_expense_charge: expense,
+            annual_expense_charge: om + other,
             annual_return_charge: returned,
             depreciation_expense: project.depreciation_expense,
-            annual_revenue_requirement: requirement(charges, project.depreciation_expense),
+            annual_revenue_requirement: om + other + returned + project.depreciation_expense,
         }
     }
 
@@ -193,7 +125,7 @@ impl<T: Template> WorkedSheet<T> {
             return Err(Refusal::ProjectOutOfRange);
         }
         let columns = self.columns(&project);
-        if !within(0, LARGEST_REQUIREMENT, columns.annual_revenue_requirement) {
+        if !requirement_fits(&columns) {
             return Err(Refusal::RequirementOutOfRange);
         }
         Ok(columns)

@@ -1,5 +1,4 @@
-use Rattle.std.proofs.Common.{sym, arith, SFits, w64, rules}
-use Rattle.std.proofs.lemmas.Int.{to_z-of_z}
+use Rattle.std.proofs.Common.{sym, arith}
 use Rattle.sheets.specs.Factors.{hundredths}
 use Rattle.sheets.proofs.Reach.{columns_in_range}
 use Rattle.sheets.proofs.Tariff.{columns_follow}
@@ -11,5 +10,4 @@ returns-clause-follows_the_tariff g c = rw c.columns-columns.ensures.value (colu
 
 pub returns-clause-columns_in_range : goal.returns-clause-columns_in_range
 returns-clause-columns_in_range g c =
-    let fits : SFits w64 c.columns-columns.result.annual_revenue_requirement = search rules in
-    columns_in_range hundredths _ _ c.args.project c.columns-columns.result (returns-clause-follows_the_tariff g c) (project_told c.args.project (sym c.if-not-project_fits.ensures)) c.columns-columns.ensures.bound (sym (simp to_z-of_z at c.if-not-within.ensures))
+    columns_in_range hundredths _ _ c.args.project c.columns-columns.result (returns-clause-follows_the_tariff g c) (project_told c.args.project (sym c.if-not-project_fits.ensures)) c.columns-columns.ensures.bound (sym c.if-not-requirement_fits.ensures)
