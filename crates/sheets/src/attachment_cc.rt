@@ -1,34 +1,10 @@
-ghost use Rattle.std.specs.Prelude.{◌≡◌};
-ghost use Rattle.sheets.specs.Attachments.{cc_rules, expense_elements, return_elements};
+ghost use Rattle.sheets.specs.Attachments.{cc_rules};
 ghost use Rattle.std.proofs.Common.{rules};
 
 use crate::elements::{Elements, ExpenseElements, ReturnElements};
 use crate::figures::{Figure, Figures};
 use crate::pricing::Project;
 use crate::template::Template;
-
-/// What is divided by gross plant, of the O&M that counts there.
-pub(crate) fn expense_elements(other_om: i128, figures: &Figures) -> ExpenseElements
-    ensures { result ≡ expense_elements other_om figures.now }
-{
-    ExpenseElements {
-        other_om,
-        general_depreciation: figures.amount(Figure::GeneralDepreciation),
-        other_taxes: figures.amount(Figure::OtherTaxes),
-        gross_plant: figures.amount(Figure::GrossPlant),
-    }
-}
-
-/// What is divided by this net plant.
-pub(crate) fn return_elements(net_plant: i128, figures: &Figures) -> ReturnElements
-    ensures { result ≡ return_elements net_plant figures.now }
-{
-    ReturnElements {
-        income_taxes: figures.amount(Figure::IncomeTaxes),
-        return_on_rate_base: figures.amount(Figure::ReturnOnRateBase),
-        net_plant,
-    }
-}
 
 /// Attachment CC: cross-border projects.
 #[derive(Clone, Copy)]
@@ -98,8 +74,8 @@ impl Template for AttachmentCc {
     fn elements(figures: &Figures) -> Elements {
         Elements {
             transmission_om: None,
-            expense: expense_elements(figures.amount(Figure::TotalOm), figures),
-            returns: return_elements(figures.amount(Figure::NetPlant), figures),
+            expense: ExpenseElements::of(figures.amount(Figure::TotalOm), figures),
+            returns: ReturnElements::of(figures.amount(Figure::NetPlant), figures),
         }
     }
 

@@ -4,8 +4,7 @@ ghost use Rattle.std.proofs.Common.{arith, rules};
 ghost use Rattle.std.proofs.lemmas.Int.{ints};
 ghost use Rattle.sheets.specs.declared.figures.Figure.TheVariants.{GrossPlant, AccumulatedDepreciation, TotalOm, TransmissionOm, LseExpenses, Account565, GeneralDepreciation, OtherTaxes, IncomeTaxes, ReturnOnRateBase};
 
-use crate::attachment_cc::{expense_elements, return_elements};
-use crate::elements::{Elements, TransmissionOm};
+use crate::elements::{Elements, ExpenseElements, ReturnElements, TransmissionOm};
 use crate::figures::{Figure, Figures};
 use crate::pricing::Project;
 use crate::template::Template;
@@ -152,8 +151,8 @@ impl Template for AttachmentMm {
     fn elements(figures: &Figures) -> Elements {
         Elements {
             transmission_om: Some(transmission_om(figures)),
-            expense: expense_elements(other_om(figures), figures),
-            returns: return_elements(net_plant(figures), figures),
+            expense: ExpenseElements::of(other_om(figures), figures),
+            returns: ReturnElements::of(net_plant(figures), figures),
         }
     }
 
