@@ -67,7 +67,7 @@ impl<T: Template> OpenSheet<T> {
         if !figure.takes(amount) {
             return Err(Refusal::AmountOutOfRange);
         }
-        self.figures.put(figure, Some(amount));
+        self.figures.put(figure, amount);
         Ok(())
     }
 
