@@ -1,5 +1,5 @@
 -- The factors and columns follow the tariff's own words.
-use Rattle.std.proofs.Common.{◌≡◌, ℕ, ◌*◌, ◌<◌, ◌≤◌, Bool, true, List, [], ◌∷◌, map, ℤ, pos, ◌+ℤ◌, ◌-ℤ◌, ◌*ℤ◌, nat_abs, ◌<ℤ◌, IfOk, Some, None, Ok, Option, Result, sym, refl, ap, ◌∙◌, subst, mul-le-mul_right, le_of_mul-le-mul_right, arith}
+use Rattle.std.proofs.Common.{◌≡◌, ℕ, ◌*◌, ◌<◌, ◌≤◌, true, List, [], ◌∷◌, map, ℤ, pos, ◌+ℤ◌, ◌-ℤ◌, ◌*ℤ◌, nat_abs, ◌<ℤ◌, Some, None, Option, sym, refl, ap, ◌∙◌, subst, mul-le-mul_right, le_of_mul-le-mul_right, arith}
 use native.Mathlib.Nat.{eq_of_mul-eq-mul_right}
 use Rattle.std.proofs.lemmas.Int.{ints}
 use Rattle.std.specs.Option.{option_map}
@@ -12,13 +12,11 @@ use Rattle.sheets.specs.declared.elements.ReturnElements.{ReturnElements}
 use Rattle.sheets.specs.declared.elements.TransmissionOm.{TransmissionOm}
 use Rattle.sheets.specs.declared.factors.Factors.{Factors}
 use Rattle.sheets.specs.declared.pricing.Project.{Project}
-use Rattle.sheets.specs.declared.refusal.Refusal.{Refusal}
-use Rattle.sheets.specs.declared.refusal.Refusal.TheVariants.{BaseNotAboveZero, AdjustedOmOutOfRange, FactorOutOfRange}
 use Rattle.sheets.specs.Elements.{total_expense, total_return}
-use Rattle.sheets.specs.Factors.{bases_above_zero, expense_factors, factor, factors_fit, factors_of, om_base_above_zero, om_factor, page_one, return_factors}
+use Rattle.sheets.specs.Factors.{bases_above_zero, expense_factors, factor, factors_of, om_base_above_zero, om_factor, return_factors}
 use Rattle.sheets.specs.Pricing.{columns_of, net_plant_of, om_charge}
 use Rattle.sheets.specs.Tariff.{ExpenseFollows, NearestParts, OmChargeFollows, OmFollows, PageOneFollows, PageTwoFollows, ReturnFollows, exact_sum, single}
-use Rattle.sheets.proofs.Told.{above_told, bases_told, past}
+use Rattle.sheets.proofs.Told.{above_told, bases_told}
 
 abbrev total : List ℤ → ℤ
 total [] = pos 0
@@ -114,7 +112,7 @@ om_follows : (scale : ℕ) (o : Option TransmissionOm) → om_base_above_zero o 
 om_follows scale (Some e) h = single_follows scale e.accumulated_depreciation e.adjusted_om (above_told e.accumulated_depreciation h)
 om_follows scale None h = tt
 
-factors_follow : (scale : ℕ) (e : Elements) → bases_above_zero e ≡ true → PageOneFollows scale e (factors_of scale e)
+pub factors_follow : (scale : ℕ) (e : Elements) → bases_above_zero e ≡ true → PageOneFollows scale e (factors_of scale e)
 factors_follow scale e h =
     let told = bases_told e h in
     record {
@@ -122,15 +120,6 @@ factors_follow scale e h =
       expense = expense_follows scale e.expense told.1;
       return = return_follows scale e.returns told.2;
     }
-
--- an accepted page 1 follows the tariff
-pub page_one_follows : (scale : ℕ) (e : Elements) (b : Bool) (r : Result Factors Refusal) → r ≡ page_one scale e b → IfOk r (PageOneFollows scale e)
-page_one_follows scale e b r same =
-    let P = PageOneFollows scale e in
-    subst (λ x. IfOk x P) (sym same)
-    (past P (bases_above_zero e) BaseNotAboveZero _
-    (λ k. past P b AdjustedOmOutOfRange _
-    (λ _. past P (factors_fit scale (factors_of scale e)) FactorOutOfRange (Ok (factors_of scale e)) (λ _. factors_follow scale e k))))
 
 om_charge_follows : (scale : ℕ) (o : Option ℤ) (base : ℤ) → 0 < scale → OmChargeFollows scale o base (om_charge scale o base)
 om_charge_follows scale (Some factor) base p = rounded_is_nearest (base *ℤ factor) scale p

@@ -1,20 +1,14 @@
 -- What the questions tell once they are answered yes.
-use Rattle.std.proofs.Common.{◌≡◌, ℕ, ◌≤◌, Bool, true, false, cond, ◌&&◌, ℤ, pos, neg_ℤ, nat_abs, ◌≤ℤ◌, ◌<ℤ◌, IfOk, Ok, Err, Result, refl, arith}
+use Rattle.std.proofs.Common.{◌≡◌, ℕ, ◌≤◌, Bool, true, false, ◌&&◌, ℤ, pos, neg_ℤ, nat_abs, ◌≤ℤ◌, ◌<ℤ◌, Ok, refl, arith}
 use lib.Signed.{le_z}
 use Rattle.std.proofs.lemmas.Int.{ints}
 use Rattle.std.proofs.lemmas.Bool.{and_parts}
 use Rattle.sheets.specs.declared.elements.Elements.{Elements}
 use Rattle.sheets.specs.declared.factors.Factors.{Factors}
 use Rattle.sheets.specs.declared.pricing.Project.{Project}
-use Rattle.sheets.specs.declared.refusal.Refusal.{Refusal}
 use Rattle.sheets.specs.Factors.{above_zero, based, bases_above_zero, factor_fits, factors_fit, hundredths, om_base_above_zero, om_factor_fits}
 use Rattle.sheets.specs.Outcomes.{within}
 use Rattle.sheets.specs.Pricing.{ProjectFits, project_fits}
-
--- what holds of the answer where the questions hold, holds of every answer that was given
-pub past : {A : Type 0} (P : A → Type 0) (b : Bool) (why : Refusal) (r : Result A Refusal) → (b ≡ true → IfOk r P) → IfOk (cond b r (Err why)) P
-past P true why r h = h refl
-past P false why r h = tt
 
 pub above_told : (x : ℤ) → above_zero x ≡ true → pos 0 <ℤ x
 above_told x h = grind (arith, ints)

@@ -2,7 +2,7 @@ ghost use Rattle.std.specs.Prelude.{◌≡◌, true, IfOk};
 ghost use Rattle.sheets.specs.Factors.{factors_fit, hundredths};
 ghost use Rattle.sheets.specs.Figures.{InRange, blank, figure_in};
 ghost use Rattle.sheets.specs.Tariff.{PageOneFollows};
-ghost use Rattle.sheets.specs.Sheets.{Gives, complete as is_complete, entered, entered_labelled, finish_outcome, worked};
+ghost use Rattle.sheets.specs.Sheets.{Gives, complete as is_complete, entered, entered_labelled, finish_outcome, finished};
 
 use crate::factors::Factors;
 use crate::figures::{Figure, Figures};
@@ -39,12 +39,16 @@ fn complete<T: Template>(figures: &Figures) -> bool
         .all(|line| figures.get(T::figure(*line)).is_some())
 }
 
-/// Page 1 of figures that are all entered.
-fn work_out<T: Template>(figures: &Figures) -> Result<Factors, Refusal>
+/// Page 1 of the figures, where every line has an amount.
+fn finished<T: Template>(figures: &Figures) -> Result<Factors, Refusal>
     requires { InRange figures.now }
-    ensures value { result ≡ worked hundredths T.rules figures.now }
+    ensures value { result ≡ finished hundredths T.rules figures.now }
     ensures fits { IfOk result (λ p. factors_fit hundredths p ≡ true) }
+    ensures follows { IfOk result (PageOneFollows hundredths (T.rules.elements_of figures.now)) }
 {
+    if !complete::<T>(figures) {
+        return Err(Refusal::LineMissing);
+    }
     page_one(T::elements(figures), T::adjusted_om_fits(figures))
 }
 
@@ -92,15 +96,8 @@ impl<T: Template> OpenSheet<T> {
         ensures follows_the_tariff { IfOk result (λ w. PageOneFollows hundredths (T.rules.elements_of self) w.factors) }
         ensures printed_sums_hold { T.sums self (T.rules.elements_of self) }
     {
-        if !complete::<T>(&self.figures) {
-            return Err((Refusal::LineMissing, self));
-        }
-        match work_out::<T>(&self.figures) {
-            Ok(factors) => {
-                let OpenSheet { figures, .. } = self;
-                Ok(WorkedSheet::new(figures, factors))
-            }
-            Err(refusal) => Err((refusal, self)),
-        }
+        let figures = self.figures;
+        let factors = finished::<T>(&figures).map_err(|refusal| (refusal, self))?;
+        Ok(WorkedSheet::new(figures, factors))
     }
 }

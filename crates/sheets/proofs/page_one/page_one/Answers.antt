@@ -1,4 +1,6 @@
 use Rattle.std.proofs.Common.{rules}
+use Rattle.sheets.specs.Factors.{hundredths}
+use Rattle.sheets.proofs.Tariff.{factors_follow}
 use Rattle.sheets.proofs.Told.{based_told}
 use Rattle.sheets.proofs.page_one.page_one.Goals as goal
 
@@ -15,3 +17,8 @@ returns-clause-value c =
     let bases = told.0 in
     let same = told.1 in
     search rules
+
+pub returns-clause-follows : goal.returns-clause-follows
+returns-clause-follows c =
+    let told = based_told _ _ _ c.in_ok-factors.ensures in
+    rw told.1 (factors_follow hundredths c.args.elements told.0)
