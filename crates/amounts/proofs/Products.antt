@@ -1,8 +1,8 @@
 -- Products of integers: what `omega (arith, ints)` does not find, since it multiplies no fact by a variable.
-use Rattle.std.proofs.Common.{◌≡◌, ℕ, ◌*◌, ◌≤◌, ℤ, pos, negsuc, ◌+ℤ◌, ◌-ℤ◌, ◌*ℤ◌, neg_ℤ, nat_abs, ◌≤ℤ◌, refl, ap, ◌∙◌, mul-le-mul_right, arith}
+use Rattle.std.proofs.Common.{◌≡◌, ℕ, ◌*◌, ◌≤◌, ℤ, pos, ◌+ℤ◌, ◌-ℤ◌, ◌*ℤ◌, neg_ℤ, nat_abs, ◌≤ℤ◌, ap, ◌∙◌, mul-le-mul_right, arith}
 use borrow.Author.Differences.{up, down, sum_is_lem, neg_is, product_is, le_out}
 use Rattle.std.proofs.lemmas.Nat.{mul-le}
-use Rattle.std.proofs.lemmas.Int.{ints}
+use Rattle.std.proofs.lemmas.Int.{ints, unsigned_abs-mul}
 
 pub times_sum : (a b c : ℤ) → (b +ℤ c) *ℤ a ≡ b *ℤ a +ℤ c *ℤ a
 times_sum a b c = omega (arith, ints, ap (λ n. n * up a) (sum_is_lem b c), ap (λ n. n * down a) (sum_is_lem b c))
@@ -19,15 +19,9 @@ times_comm a b = omega (arith, ints)
 pub times_mono : (a b : ℤ) (k : ℕ) → a ≤ℤ b → (a *ℤ pos k) ≤ℤ (b *ℤ pos k)
 times_mono a b k h = omega (arith, ints, mul-le-mul_right k (le_out a b h))
 
-pub size_of_product : (a b : ℤ) → nat_abs (a *ℤ b) ≡ nat_abs a * nat_abs b
-size_of_product (pos a) (pos b) = refl
-size_of_product (pos a) (negsuc b) = omega (arith, ints)
-size_of_product (negsuc a) (pos b) = omega (arith, ints)
-size_of_product (negsuc a) (negsuc b) = refl
-
 -- sizes within m and n have a product within m × n
 pub product_within : (a b : ℤ) (m n : ℕ) → nat_abs a ≤ m → nat_abs b ≤ n → nat_abs (a *ℤ b) ≤ m * n
-product_within a b m n p q = omega (arith, size_of_product a b, mul-le (nat_abs a) (nat_abs b) m n p q)
+product_within a b m n p q = omega (arith, unsigned_abs-mul a b, mul-le (nat_abs a) (nat_abs b) m n p q)
 
 times_negative : (a b : ℤ) → neg_ℤ a *ℤ b ≡ neg_ℤ (a *ℤ b)
 times_negative a b =

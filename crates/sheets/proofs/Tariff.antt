@@ -1,10 +1,10 @@
 -- The factors and columns follow the tariff's own words.
 use Rattle.std.proofs.Common.{◌≡◌, ℕ, ◌*◌, ◌<◌, ◌≤◌, true, List, [], ◌∷◌, map, ℤ, pos, ◌+ℤ◌, ◌-ℤ◌, ◌*ℤ◌, nat_abs, ◌<ℤ◌, Some, None, Option, sym, refl, ap, ◌∙◌, subst, mul-le-mul_right, le_of_mul-le-mul_right, arith}
 use native.Mathlib.Nat.{eq_of_mul-eq-mul_right}
-use Rattle.std.proofs.lemmas.Int.{ints}
+use Rattle.std.proofs.lemmas.Int.{ints, unsigned_abs-mul}
 use Rattle.std.specs.Option.{option_map}
 use Rattle.amounts.proofs.Laws.{rounded_is_nearest}
-use Rattle.amounts.proofs.Products.{times_sum, times_difference, times_assoc, times_comm, size_of_product}
+use Rattle.amounts.proofs.Products.{times_sum, times_difference, times_assoc, times_comm}
 use Rattle.amounts.specs.Rounding.{Nearest}
 use Rattle.sheets.specs.declared.elements.Elements.{Elements}
 use Rattle.sheets.specs.declared.elements.ExpenseElements.{ExpenseElements}
@@ -59,7 +59,7 @@ module _ (m n : ℤ) (d e scale : ℕ) (r : ℤ) (same : n *ℤ pos d ≡ m *ℤ
       ∙ sym (times_difference (pos e) (m *ℤ pos scale) (r *ℤ pos d))
 
   sizes : (a b : ℤ) → a *ℤ pos d ≡ b *ℤ pos e → nat_abs a * d ≡ nat_abs b * e
-  sizes a b h = sym (size_of_product a (pos d)) ∙ ap nat_abs h ∙ size_of_product b (pos e)
+  sizes a b h = sym (unsigned_abs-mul a (pos d)) ∙ ap nat_abs h ∙ unsigned_abs-mul b (pos e)
 
   pub nearest_same : 0 < d → 0 < e → Nearest (m *ℤ pos scale) d r → Nearest (n *ℤ pos scale) e r
   nearest_same p q h =

@@ -2,15 +2,14 @@ use Rattle.std.proofs.Common.{◌≡◌, ◌*ℤ◌, arith, w64, SFits}
 use Rattle.amounts.proofs.Laws.{rounded_within}
 use Rattle.amounts.proofs.Products.{product_within}
 use Rattle.amounts.specs.Rounding.{rounded}
-use Rattle.std.proofs.lemmas.Int.{ints, to_z-of_z}
+use Rattle.std.proofs.lemmas.Int.{fits_signed_mul, ints, to_z-of_z}
 use Rattle.sheets.proofs.worked_sheet.charge.Goals as goal
-use Rattle.sheets.proofs.worked_sheet.charge.Goals.{Start}
-
-fits : (c : Start) → SFits w64 (c.args.amount *ℤ c.args.factor)
-fits c = omega (arith, ints, product_within c.args.amount c.args.factor 10000000000 100000 c.requires.0 c.requires.1)
 
 pub overflow_mul-amount : goal.overflow_mul-amount
-overflow_mul-amount c = let f = fits c in let a = c.ranges.amount in let b = c.ranges.factor in simp to_z-of_z f
+overflow_mul-amount c =
+    let a = c.ranges.amount in
+    let b = c.ranges.factor in
+    simp to_z-of_z (fits_signed_mul w64 c.args.amount c.args.factor 10000000000 100000 c.requires.0 c.requires.1 (omega arith))
 
 pub returns : goal.returns
 returns c =
