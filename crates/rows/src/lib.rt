@@ -5,10 +5,24 @@
 ghost use Rattle.std.specs.Prelude.{◌≡◌, ◌≤◌, ⊤, length};
 
 use std::alloc::AllocError;
+use std::error::Error;
+use std::fmt;
 
 /// There are as many rows as there can be.
 #[derive(Clone, Copy, PartialEq, Eq, Debug)]
 pub struct Full;
+
+impl fmt::Display for Full {
+    ghost use Rattle.std.specs.Prelude.{Some, codes};
+
+    ghost output = { λ _. Some (codes "there are as many rows as there can be") };
+
+    fn fmt<W: fmt::Write>(&self, f: &mut fmt::Formatter<W>) -> fmt::Result {
+        f.write_str("there are as many rows as there can be")
+    }
+}
+
+impl Error for Full {}
 
 /// Up to `MOST` rows in the order in which they were added; the first `count` places are in use.
 pub struct Rows<T, const MOST: usize> {

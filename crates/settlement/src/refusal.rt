@@ -39,6 +39,11 @@ impl Refusal {
 }
 
 impl fmt::Display for Refusal {
+    ghost use Rattle.std.specs.Prelude.{Some};
+    ghost use Rattle.settlement.specs.Refusals.{sentence_of};
+
+    ghost output = { λ refusal. Some (sentence_of refusal) };
+
     fn fmt<W: fmt::Write>(&self, f: &mut fmt::Formatter<W>) -> fmt::Result {
         f.write_str(match self {
             Refusal::ProjectNumberOutOfRange => "the project number is not 1 to 99,999,999",

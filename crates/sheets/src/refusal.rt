@@ -28,6 +28,11 @@ impl Refusal {
 
 /// What was wrong, for a person.
 impl fmt::Display for Refusal {
+    ghost use Rattle.std.specs.Prelude.{Some};
+    ghost use Rattle.sheets.specs.Refusals.{sentence_of};
+
+    ghost output = { λ refusal. Some (sentence_of refusal) };
+
     fn fmt<W: fmt::Write>(&self, f: &mut fmt::Formatter<W>) -> fmt::Result {
         f.write_str(match self {
             Refusal::UnknownLine => "the template has no line with this label",
