@@ -21,12 +21,12 @@ use Rattle.filing.specs.Reading.{going_on}
 -- page 1 as the sheet finishes it
 module _ (f : Figures) where
   pub page_one_done : (x : Result Factors SheetRefusal) (w : Figures × Factors) → Ok w ≡ with_sheet f x → Ok w ≡ then (by_sheet x) (λ p. Ok (f, p))
-  page_one_done (Ok p) w e = let same : w ≡ (f, p) = cc in ap Ok same
-  page_one_done (Err why) w e = absurd (let z : ◌≡◌ {A = ℕ} 0 1 = cc in omega arith)
+  page_one_done (Ok p) w e = cc
+  page_one_done (Err why) w e = absurd cc
 
   pub page_one_refused : (x : Result Factors SheetRefusal) (e : SheetRefusal × Figures) → Err e ≡ with_sheet f x → Err (Sheet e.0) ≡ then {Y = Figures × Factors} (by_sheet x) (λ p. Ok (f, p))
-  page_one_refused (Ok p) e h = absurd (let z : ◌≡◌ {A = ℕ} 0 1 = cc in omega arith)
-  page_one_refused (Err why) e h = let same : e ≡ (why, f) = cc in ap (λ x. Err (Sheet x.0)) same
+  page_one_refused (Ok p) e h = absurd cc
+  page_one_refused (Err why) e h = cc
 
 -- a record's letter stands first in its line
 letter_is : (before : FilingReader) (r : Record) → PartOf before r → get_or (next_line before) 0 0 ≡ r.letter
@@ -64,9 +64,9 @@ module _ {L : Type 0} (t : Rules L) (f : Figures) (letter : ℕ) (line : List �
 pub filing_begins : (file : List ℕ) (before after : FilingReader) (r : Record) → Opens file before → Nexts before (Ok (Some r)) after → filed file ≡ unless (eqb r.letter 84) (at_line 1 LetterOutOfPlace) (filed_under r.bytes.now (unread after))
 filing_begins file before after r opened n =
     let line = next_line before in
-    let short : short_enough file ≡ true = le-leb _ _ (omega (arith, ap length opened.reads_the_file, before.place)) in
+    let short : short_enough file ≡ true = le-leb _ _ (omega (arith, ap length opened.reads_the_file, before.short)) in
     ap (λ b. unless b (at_line 1 FileTooLong) (filed_lines (lines_of file))) short
-    ∙ ap filed_lines (sym opened.all_lines_are_left ∙ n.2.one_line_less)
+    ∙ ap filed_lines (ap lines_of (sym opened.reads_the_file) ∙ n.2.one_line_less)
     ∙ ap (λ b. unless b (at_line 1 NotALine) (unless (eqb (get_or line 0 0) 84) (at_line 1 LetterOutOfPlace) (filed_under (take 56 line) (unread after)))) n.0
     ∙ ap (λ x. unless (eqb x 84) (at_line 1 LetterOutOfPlace) (filed_under (take 56 line) (unread after))) (letter_is before r n.1)
     ∙ ap (λ bytes. unless (eqb r.letter 84) (at_line 1 LetterOutOfPlace) (filed_under bytes (unread after))) (sym n.1.bytes_are_the_next_line)

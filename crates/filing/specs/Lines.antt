@@ -1,5 +1,6 @@
 -- The lines of a filing.
-use Rattle.std.specs.Prelude.{◌≡◌, ℕ, zero, suc, ◌+◌, ◌/◌, Bool, true, false, not, ◌&&◌, List, [], ◌∷◌, length, take, drop, Some, None, Ok, Err, Option, Result, ◌==◌, nat_le, slice_index}
+use Rattle.std.specs.Prelude.{◌≡◌, ℕ, zero, suc, ◌+◌, ◌*◌, ◌/◌, Bool, true, false, not, ◌&&◌, List, [], ◌∷◌, length, take, drop, Some, None, Ok, Err, Option, Result, ◌==◌, nat_le, slice_index}
+use Rattle.std.specs.List.{list_any}
 use Rattle.filing.specs.declared.reader.FilingReader.{FilingReader}
 use Rattle.filing.specs.declared.reader.Record.{Record}
 use Rattle.filing.specs.declared.refusal.LineRefusal.{LineRefusal}
@@ -8,8 +9,7 @@ use Rattle.filing.specs.declared.refusal.Refusal.TheVariants.{NotALine}
 
 -- no byte is b
 abbrev pub without : ℕ → List ℕ → Bool
-without b [] = true
-without b (x ∷ xs) = not (x == b) && without b xs
+without b bytes = not (list_any (λ x. x == b) bytes)
 
 -- a line is 56 bytes, none a newline, and then a newline
 abbrev pub whole : List ℕ → Bool
@@ -36,32 +36,27 @@ abbrev pub at_line : ℕ → Refusal → LineRefusal
 at_line n why = record { line = n; refusal = why }
 
 -- what a reader has not read yet, and the line that comes next
-abbrev pub rest_of : FilingReader → List ℕ
-rest_of reader = drop reader.offset reader.file.now
-
 abbrev pub unread : FilingReader → List (List ℕ)
-unread reader = lines_of (rest_of reader)
+unread reader = lines_of reader.rest.now
 
 abbrev pub next_line : FilingReader → List ℕ
-next_line reader = take 57 (rest_of reader)
+next_line reader = take 57 reader.rest.now
 
 -- a reader starts before the first line
 pub record Opens (file : List ℕ) (reader : FilingReader) : Type 0 where
-  pub reads_the_file : reader.file.now ≡ file
+  pub reads_the_file : reader.rest.now ≡ file
   pub no_line_is_read : reader.lines ≡ 0
-  pub all_lines_are_left : unread reader ≡ lines_of file
 
 -- a record lends its bytes from the file and says where they stand
 pub record PartOf (reader : FilingReader) (r : Record) : Type 0 where
   pub bytes_are_the_next_line : r.bytes.now ≡ take 56 (next_line reader)
   pub letter_is_its_first_byte : r.letter ≡ slice_index r.bytes.now 0
-  pub fills_its_columns : length r.bytes.now ≡ 56
-  pub stands_at_its_offset : r.offset ≡ reader.offset
+  pub stands_at_its_offset : r.offset ≡ 57 * reader.lines
   pub has_the_next_number : r.line ≡ reader.lines + 1
 
 -- the reader stands one line further in the same file
 pub record OneLineOn (before after : FilingReader) : Type 0 where
-  pub same_file : after.file ≡ before.file
+  pub same_file : after.rest.now ≡ drop 57 before.rest.now
   pub one_line_less : unread before ≡ next_line before ∷ unread after
   pub one_line_more : after.lines ≡ before.lines + 1
 
@@ -69,4 +64,4 @@ pub record OneLineOn (before after : FilingReader) : Type 0 where
 abbrev pub Nexts : FilingReader → Result (Option Record) LineRefusal → FilingReader → Type 0
 Nexts before (Ok (Some r)) after = (whole (next_line before) ≡ true) × PartOf before r × OneLineOn before after
 Nexts before (Ok None) after = (unread before ≡ []) × (after ≡ before)
-Nexts before (Err e) after = (whole (next_line before) ≡ false) × (unread before ≡ next_line before ∷ lines_of (drop 57 (rest_of before))) × (e ≡ at_line (before.lines + 1) NotALine) × (after ≡ before)
+Nexts before (Err e) after = (whole (next_line before) ≡ false) × (unread before ≡ next_line before ∷ lines_of (drop 57 before.rest.now)) × (e ≡ at_line (before.lines + 1) NotALine) × (after ≡ before)

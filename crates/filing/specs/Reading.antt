@@ -1,5 +1,5 @@
 -- F lines read up to the first P line.
-use Rattle.std.specs.Prelude.{◌≡◌, ◌+◌, length, Ok, Err, Result}
+use Rattle.std.specs.Prelude.{◌≡◌, ◌+◌, Ok, Err, Result}
 use Rattle.sheets.specs.Rules.{Rules}
 use Rattle.sheets.specs.declared.figures.Figures.{Figures}
 use Rattle.filing.specs.declared.reader.FilingReader.{FilingReader}
@@ -15,7 +15,6 @@ going_on t taken reader = then taken (λ next. from t (reader.lines + 1) next (u
 
 -- from the stage f the lines give what the P line r gives at the stage g, and then the lines after it
 pub record Reaches {L : Type 0} (t : Rules L) (before : FilingReader) (f : Figures) (r : Record) (after : FilingReader) (g : Figures) : Type 0 where
-  pub fills_its_columns : length r.bytes.now ≡ 56
   pub gives_the_same : from t (before.lines + 1) (entering f) (unread before) ≡ going_on t (at r.line (project_taken t (entering g) r.bytes.now)) after
 
 abbrev pub ReadsFigures : {L : Type 0} → Rules L → FilingReader → Figures → Result Record LineRefusal → FilingReader → Figures → Type 0

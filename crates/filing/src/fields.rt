@@ -49,15 +49,11 @@ fn number_in(field: &[u8]) -> Result<i64, Refusal>
     requires { length field.now ≤ 12 }
     ensures { result ≡ number_in field.now }
 {
-    match read_number(field) {
-        Ok(number) => Ok(number as i64),
-        Err(_) => Err(Refusal::MalformedField),
-    }
+    Ok(read_number(field)? as i64)
 }
 
 /// The fields of an F line.
-pub(crate) fn read_figure(line: &[u8]) -> Result<FiledFigure, Refusal>
-    requires { length line.now ≡ 56 }
+pub(crate) fn read_figure(line: &[u8; 56]) -> Result<FiledFigure, Refusal>
     ensures { Shows result (figure_on line.now) }
 {
     let label = label_in(&line[1..4])?;
@@ -69,8 +65,7 @@ pub(crate) fn read_figure(line: &[u8]) -> Result<FiledFigure, Refusal>
 }
 
 /// The fields of a P line.
-pub(crate) fn read_project(line: &[u8]) -> Result<FiledProject, Refusal>
-    requires { length line.now ≡ 56 }
+pub(crate) fn read_project(line: &[u8; 56]) -> Result<FiledProject, Refusal>
     ensures { result ≡ project_on line.now }
 {
     let number = number_in(&line[1..12])?;

@@ -1,5 +1,9 @@
+use crate::fields::read_project;
 use crate::priced_projects::PricedProjects;
-use sheets::{Template, WorkedSheet};
+use crate::reader::Record;
+use crate::refusal::Refusal;
+use crate::sheet_lines::{finish, price};
+use sheets::{OpenSheet, Template, WorkedSheet};
 
 pub(crate) mod calls;
 
@@ -8,4 +12,45 @@ pub(crate) mod calls;
 pub struct Pages<T: Template> {
     pub sheet: WorkedSheet<T>,
     pub projects: PricedProjects,
+}
+
+impl<T: Template> Pages<T> {
+    ghost use Rattle.std.specs.Prelude.{◌≡◌};
+    ghost use Rattle.filing.specs.Filed.{Leaves, by_letter, entering, pricing, project_taken, seen};
+    ghost use Rattle.filing.specs.Rows.{rows_of};
+
+    /// Finishes page 1 at the first P line, and prices its project.
+    fn open(sheet: OpenSheet<T>, line: &[u8; 56]) -> Result<Pages<T>, Refusal>
+        ensures { seen (λ p. pricing p.sheet.figures p.sheet.factors (rows_of p.projects)) result ≡ project_taken T.rules (entering sheet.figures) line.now }
+    {
+        let filed = read_project(line)?;
+        let sheet = finish(sheet)?;
+        let first = price(&sheet, filed)?;
+        Ok(Pages {
+            sheet,
+            projects: PricedProjects::of(first),
+        })
+    }
+
+    /// Adds the project of a P line.
+    fn add(&mut self, line: &[u8; 56]) -> Result<(), Refusal>
+        ensures { Leaves (project_taken T.rules (pricing self.old.sheet.figures self.old.sheet.factors (rows_of self.old.projects)) line.now) result (pricing self.new.sheet.figures self.new.sheet.factors (rows_of self.new.projects)) }
+    {
+        let filed = read_project(line)?;
+        if !self.projects.has_room() {
+            return Err(Refusal::TooManyProjects);
+        }
+        self.projects.push(price(&self.sheet, filed)?);
+        Ok(())
+    }
+
+    /// Takes a line after the first P line.
+    fn take(&mut self, line: Record) -> Result<(), Refusal>
+        ensures { Leaves (by_letter T.rules (pricing self.old.sheet.figures self.old.sheet.factors (rows_of self.old.projects)) line.entry.letter line.entry.bytes.now) result (pricing self.new.sheet.figures self.new.sheet.factors (rows_of self.new.projects)) }
+    {
+        match line.letter {
+            'P' => self.add(line.bytes),
+            _ => Err(Refusal::LetterOutOfPlace),
+        }
+    }
 }

@@ -1,22 +1,98 @@
-ghost use Rattle.std.specs.Prelude.{◌≡◌, ◌*◌, ◌≤◌, length};
+ghost use Rattle.std.specs.Prelude.{◌≡◌, ◌+◌, ◌*◌, ◌≤◌, length};
 
-mod calls;
+use crate::refusal::{LineRefusal, Refusal};
 
 /// A line of a filing: its letter, its 56 bytes as a part of the file, where they begin in the
 /// file, and the line's number from 1.
 #[derive(Clone, Copy)]
 pub(crate) struct Record<'a> {
     pub(crate) letter: char,
-    pub(crate) bytes: &'a [u8],
+    pub(crate) bytes: &'a [u8; 56],
     pub(crate) offset: usize,
     pub(crate) line: u16,
 }
 
-/// A reader over the lines of a filing. It stands at the end of a line.
+impl Record<'_> {
+    ghost use Rattle.filing.specs.Filed.{at};
+    ghost use Rattle.filing.specs.Lines.{at_line};
+
+    /// A refusal of this line.
+    pub(crate) fn refused(&self, refusal: Refusal) -> LineRefusal
+        ensures { result ≡ at_line self.now.line refusal }
+    {
+        refusal.at_line(self.line)
+    }
+
+    /// What this line gives, where a refusal is one of this line.
+    pub(crate) fn answer<X>(&self, given: Result<X, Refusal>) -> Result<X, LineRefusal>
+        ensures { result ≡ at self.now.line given }
+    {
+        let line = self.line;
+        given.map_err(|refusal| LineRefusal { line, refusal })
+    }
+}
+
+/// A reader over the lines of a filing: the bytes that no line was read of, and how many lines
+/// were read.
 #[derive(Drop)]
 pub(crate) struct FilingReader<'a> {
-    file: &'a [u8],
-    offset: usize,
+    rest: &'a [u8],
     lines: u16,
-    ghost place: { (offset ≡ 57 * lines) × (offset ≤ length file.now) × (length file.now ≤ 65536) },
+    ghost short: { 57 * lines + length rest.now ≤ 65536 },
+}
+
+impl<'a> FilingReader<'a> {
+    ghost use Rattle.std.specs.Prelude.{true, false, take, drop, MatchOption};
+    ghost use Rattle.filing.specs.Lines.{Nexts, Opens, next_line, whole};
+
+    /// A reader at the start of a filing.
+    pub(crate) fn new(file: &'a [u8]) -> FilingReader<'a>
+        requires { length file.now ≤ 65536 }
+        ensures { Opens file.now result }
+    {
+        FilingReader {
+            rest: file,
+            lines: 0,
+        }
+    }
+
+    /// The number of the next line, from 1.
+    pub(crate) fn line(&self) -> u16
+        ensures { result ≡ self.now.lines + 1 }
+    {
+        self.lines + 1
+    }
+
+    /// The columns of the next line, and what follows it.
+    fn next_line(&self) -> Option<(&'a [u8; 56], &'a [u8])>
+        ensures { MatchOption result (whole (next_line self.now) ≡ false) (λ p. (whole (next_line self.now) ≡ true) × (p.0.now ≡ take 56 (next_line self.now)) × (p.1.now ≡ drop 57 self.now.rest.now)) }
+    {
+        let (columns, after) = self.rest.split_first_chunk()?;
+        if columns.contains(&b'\n') {
+            return None;
+        }
+        Some((columns, after.strip_prefix(b"\n")?))
+    }
+
+    /// The next line, or nothing at the end of the file; a refusal leaves the reader where it is.
+    pub(crate) fn next_record(&mut self) -> Result<Option<Record<'a>>, LineRefusal>
+        ensures { Nexts self.old result self.new }
+    {
+        if self.rest.is_empty() {
+            return Ok(None);
+        }
+        let line = self.line();
+        let Some((bytes, rest)) = self.next_line() else {
+            return Err(Refusal::NotALine.at_line(line));
+        };
+        let offset = 57 * usize::from(self.lines);
+        self.rest = rest;
+        self.lines = line;
+        Ok(Some(Record {
+            letter: char::from(bytes[0]),
+            bytes,
+            offset,
+            line,
+        }))
+    }
 }

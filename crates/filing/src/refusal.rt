@@ -1,5 +1,9 @@
 ghost use Rattle.std.specs.Prelude.{◌≡◌};
+ghost use Rattle.filing.specs.Lines.{at_line};
 ghost use Rattle.filing.specs.Refusals.{number_of};
+ghost use Rattle.filing.specs.declared.refusal.Refusal.TheVariants.{MalformedField, Sheet};
+
+use sheets::{OpenSheet, Template};
 
 use std::error::Error;
 use std::fmt;
@@ -43,6 +47,41 @@ impl Refusal {
             Refusal::NoProject => 32,
             Refusal::Sheet(refusal) => refusal.number(),
         }
+    }
+
+    /// The refusal of this line.
+    pub(crate) fn at_line(self, line: u16) -> LineRefusal
+        ensures { result ≡ at_line line self }
+    {
+        LineRefusal {
+            line,
+            refusal: self,
+        }
+    }
+}
+
+impl From<sheets::Refusal> for Refusal {
+    ghost from_gives = { λ why e. e ≡ Sheet why };
+
+    fn from(why: sheets::Refusal) -> Refusal {
+        Refusal::Sheet(why)
+    }
+}
+
+// a sheet whose page 1 is refused comes back beside the refusal
+impl<T: Template> From<(sheets::Refusal, OpenSheet<T>)> for Refusal {
+    ghost from_gives = { λ refused e. e ≡ Sheet refused.0 };
+
+    fn from(refused: (sheets::Refusal, OpenSheet<T>)) -> Refusal {
+        Refusal::Sheet(refused.0)
+    }
+}
+
+impl From<columns::Refusal> for Refusal {
+    ghost from_gives = { λ _ e. e ≡ MalformedField };
+
+    fn from(_why: columns::Refusal) -> Refusal {
+        Refusal::MalformedField
     }
 }
 

@@ -19,10 +19,11 @@ const LONGEST: usize = 65_536;
 
 /// Reads a filing of this template, whose first line is the T line.
 fn read_sheet<T: Template>(line: Record, reader: FilingReader) -> Result<Pages<T>, LineRefusal>
-    requires { (length line.bytes.now ≡ 56) × ((line.line ≡ 1) × (reader.lines ≡ 1)) }
+    requires { (line.line ≡ 1) × (reader.lines ≡ 1) }
     ensures { seen (λ p. filed_as p.sheet.figures p.sheet.factors (rows_of p.projects)) result ≡ sheet_filed T.rules line.entry.bytes.now (unread reader.entry) }
 {
-    if !is_blank(&line.bytes[4..56]) {
+    let columns = line.bytes;
+    if !is_blank(&columns[4..]) {
         return Err(line.refused(Refusal::MalformedField));
     }
     read_lines(reader)
@@ -30,10 +31,11 @@ fn read_sheet<T: Template>(line: Record, reader: FilingReader) -> Result<Pages<T
 
 /// Reads a filing by the template's name.
 fn read_named(line: Record, reader: FilingReader) -> Result<Filing, LineRefusal>
-    requires { (length line.bytes.now ≡ 56) × ((line.line ≡ 1) × (reader.lines ≡ 1)) }
+    requires { (line.line ≡ 1) × (reader.lines ≡ 1) }
     ensures { seen view result ≡ filed_under line.entry.bytes.now (unread reader.entry) }
 {
-    match &line.bytes[1..4] {
+    let columns = line.bytes;
+    match &columns[1..4] {
         b" MM" => Ok(Filing::Mm(read_sheet(line, reader)?)),
         b" CC" => Ok(Filing::Cc(read_sheet(line, reader)?)),
         _ => Err(line.refused(Refusal::UnknownTemplate)),
@@ -45,17 +47,11 @@ fn read_whole(file: &[u8]) -> Result<Filing, LineRefusal>
     ensures { seen view result ≡ filed file.now }
 {
     if file.len() > LONGEST {
-        return Err(LineRefusal {
-            line: 1,
-            refusal: Refusal::FileTooLong,
-        });
+        return Err(Refusal::FileTooLong.at_line(1));
     }
     let mut reader = FilingReader::new(file);
     let Some(line) = reader.next_record()? else {
-        return Err(LineRefusal {
-            line: 1,
-            refusal: Refusal::LetterOutOfPlace,
-        });
+        return Err(Refusal::LetterOutOfPlace.at_line(1));
     };
     match line.letter {
         'T' => read_named(line, reader),
@@ -77,8 +73,7 @@ impl Filing {
         ensures { rows_of result ≡ (view self.now).1.rows }
     {
         match self {
-            Filing::Mm(pages) => pages.projects,
-            Filing::Cc(pages) => pages.projects,
+            Filing::Mm(Pages { projects, .. }) | Filing::Cc(Pages { projects, .. }) => *projects,
         }
     }
 }
@@ -87,6 +82,5 @@ impl Filing {
 pub fn read_filing(file: &[u8]) -> Result<PricedProjects, LineRefusal>
     ensures { seen rows_of result ≡ seen rows_filed (filed file.now) }
 {
-    let filing = read_pages(file)?;
-    Ok(filing.projects())
+    Ok(read_pages(file)?.projects())
 }

@@ -1,16 +1,14 @@
-ghost use Rattle.std.specs.Prelude.{◌≡◌, ◌+◌, length};
+ghost use Rattle.std.specs.Prelude.{◌≡◌, ◌+◌};
 ghost use Rattle.sheets.specs.Figures.{blank};
-ghost use Rattle.filing.specs.Filed.{entering, filed_as, from, pricing, project_taken, seen};
+ghost use Rattle.filing.specs.Filed.{entering, filed_as, from, pricing, seen};
 ghost use Rattle.filing.specs.Lines.{unread};
 ghost use Rattle.filing.specs.Reading.{ReadsFigures};
 ghost use Rattle.filing.specs.Rows.{rows_of};
 
-use crate::fields::read_project;
 use crate::pages::Pages;
-use crate::priced_projects::PricedProjects;
 use crate::reader::{FilingReader, Record};
 use crate::refusal::{LineRefusal, Refusal};
-use crate::sheet_lines::{enter_figure, finish, price, take_project};
+use crate::sheet_lines::enter_figure;
 use sheets::{OpenSheet, Template};
 
 /// Enters the figures of the F lines, and answers the first P line.
@@ -23,32 +21,13 @@ fn read_figures<'a, T: Template>(
     'lines: while let Some(line) = reader.next_record()? {
         match line.letter {
             'F' => {
-                if let Err(refusal) = enter_figure(sheet, line.bytes) {
-                    return Err(line.refused(refusal));
-                }
+                line.answer(enter_figure(sheet, line.bytes))?;
             }
             'P' => return Ok(line),
             _ => return Err(line.refused(Refusal::LetterOutOfPlace)),
         }
     }
-    Err(LineRefusal {
-        line: reader.line(),
-        refusal: Refusal::NoProject,
-    })
-}
-
-/// Finishes page 1 at the first P line, and prices its project.
-fn first_project<T: Template>(sheet: OpenSheet<T>, line: &[u8]) -> Result<Pages<T>, Refusal>
-    requires { length line.now ≡ 56 }
-    ensures { seen (λ p. pricing p.sheet.figures p.sheet.factors (rows_of p.projects)) result ≡ project_taken T.rules (entering sheet.figures) line.now }
-{
-    let filed = read_project(line)?;
-    let sheet = finish(sheet)?;
-    let first = price(&sheet, filed)?;
-    Ok(Pages {
-        sheet,
-        projects: PricedProjects::of(first),
-    })
+    Err(Refusal::NoProject.at_line(reader.line()))
 }
 
 /// Prices the projects of the other P lines.
@@ -59,9 +38,7 @@ fn price_rest<T: Template>(
     ensures { seen (λ p. filed_as p.sheet.figures p.sheet.factors (rows_of p.projects)) result ≡ from T.rules (reader.entry.lines + 1) (pricing pages.sheet.figures pages.sheet.factors (rows_of pages.projects)) (unread reader.entry) }
 {
     'lines: while let Some(line) = reader.next_record()? {
-        if let Err(refusal) = take_project(&pages.sheet, line, &mut pages.projects) {
-            return Err(line.refused(refusal));
-        }
+        line.answer(pages.take(line))?;
     }
     Ok(pages)
 }
@@ -72,8 +49,6 @@ pub(crate) fn read_lines<T: Template>(mut reader: FilingReader) -> Result<Pages<
 {
     let mut sheet = OpenSheet::new();
     let line = read_figures(&mut reader, &mut sheet)?;
-    match first_project(sheet, line.bytes) {
-        Ok(pages) => price_rest(reader, pages),
-        Err(refusal) => Err(line.refused(refusal)),
-    }
+    let pages = line.answer(Pages::open(sheet, line.bytes))?;
+    price_rest(reader, pages)
 }
