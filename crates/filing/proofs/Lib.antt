@@ -1,4 +1,2 @@
 pub mod Lines
 pub mod Records
-pub mod Rows
-pub mod Stages

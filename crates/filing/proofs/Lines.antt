@@ -40,8 +40,8 @@ whole_is_long line h =
     let n : get_or line 56 0 ≡ 10 = eqb-true _ _ (and_parts (eqb (get_or line 56 0) 10) (without 10 (take 56 line)) h).0 in
     ⊎_elim (λ (l : 56 < length line). omega arith) (λ (l : length line ≤ 56). absurd (omega (arith, get_or_past line 56 0 l))) (cases_lt 56 (length line))
 
-pub whole_is_first : (rest : List ℕ) → whole (take 57 rest) ≡ true → 57 ≤ length rest
-whole_is_first rest h = omega (arith, whole_is_long (take 57 rest) h, length-take 57 rest)
+pub first_line_is_long : (rest : List ℕ) → whole (take 57 rest) ≡ true → 57 ≤ length rest
+first_line_is_long rest h = omega (arith, whole_is_long (take 57 rest) h, length-take 57 rest)
 
 -- no bytes, no line
 pub no_line : (rest : List ℕ) → length rest ≡ 0 → lines_of rest ≡ []

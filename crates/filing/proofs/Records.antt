@@ -157,7 +157,7 @@ module _ {L : Type 0} (t : Rules L) (line : List ℕ) (long : length line ≡ 56
       figure_held line long x.0 (is ∙ eqb-true letter 70 h.0) x.1)
       (λ (h : (eqb letter 70 ≡ false) × (cond (eqb letter 80) (project_taken t (entering f) line) (Err LetterOutOfPlace) ≡ Ok next)). project_or_refused (entering f) next letter is h.1)
       (either_ok (eqb letter 70) _ _ next e)
-  letter_held (pricing f p rows) next letter is e = project_or_refused (pricing f p rows) next letter is e
+  letter_held (pricing p) next letter is e = project_or_refused (pricing p) next letter is e
 
 -- a line of the file is its record written
 abbrev HeldLine : List ℕ → Type 0

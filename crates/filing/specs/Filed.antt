@@ -5,6 +5,7 @@ use Rattle.sheets.specs.Outcomes.{within}
 use Rattle.sheets.specs.Pricing.{priced}
 use Rattle.sheets.specs.Rules.{Rules}
 use Rattle.sheets.specs.Sheets.{entered_labelled, finished}
+use Rattle.sheets.specs.Worked.{Worked}
 use Rattle.sheets.specs.declared.factors.Factors.{Factors}
 use Rattle.sheets.specs.declared.figures.Figures.{Figures}
 use Rattle.sheets.specs.declared.refusal.Refusal.{Refusal as SheetRefusal}
@@ -22,10 +23,19 @@ abbrev pub by_sheet : {X : Type 0} → Result X SheetRefusal → Result X Refusa
 by_sheet (Ok x) = Ok x
 by_sheet (Err why) = Err (Sheet why)
 
+-- a worked sheet's figures and factors, and the priced projects
+pub record Filed : Type 0 where
+  pub figures : Figures
+  pub factors : Factors
+  pub rows : List Row
+
+abbrev pub filed_as : Figures → Factors → List Row → Filed
+filed_as f p rows = record { figures = f; factors = p; rows = rows }
+
 -- F lines have been read so far, or P lines too
 pub data Stage : Type 0 where
   entering : Figures → Stage
-  pricing : Figures → Factors → List Row → Stage
+  pricing : Filed → Stage
 
 abbrev pub after_entry : Result (Unit {0}) SheetRefusal → Figures → Result Figures Refusal
 after_entry (Ok done) f = Ok f
@@ -39,13 +49,13 @@ abbrev pub figure_taken : {L : Type 0} → Rules L → Figures → List ℕ → 
 figure_taken t f line = then (figure_on line) (figure_entered t f)
 
 -- page 1 is finished at the first P line
-abbrev pub page_one_at : {L : Type 0} → Rules L → Stage → Result (Figures × Factors) Refusal
-page_one_at t (entering f) = then (by_sheet (finished hundredths t f)) (λ p. Ok (f, p))
-page_one_at t (pricing f p rows) = Ok (f, p)
+abbrev pub page_one_at : {L : Type 0} → Rules L → Stage → Result Worked Refusal
+page_one_at t (entering f) = then (by_sheet (finished hundredths t f)) (λ p. Ok (record { figures = f; factors = p }))
+page_one_at t (pricing p) = Ok (record { figures = p.figures; factors = p.factors })
 
 abbrev pub rows_at : Stage → List Row
 rows_at (entering f) = []
-rows_at (pricing f p rows) = rows
+rows_at (pricing p) = p.rows
 
 -- a project number is 1 to 99,999,999
 abbrev pub priced_row : {L : Type 0} → Rules L → Factors → FiledProject → Result Row Refusal
@@ -60,28 +70,19 @@ project_taken t stage line =
     then (project_on line) (λ j.
     unless (nat_lt (length (rows_at stage)) 64) TooManyProjects
     (then (page_one_at t stage) (λ w.
-    then (priced_row t w.1 j) (λ row.
-    Ok (pricing w.0 w.1 (rows_at stage ++ (row ∷ [])))))))
+    then (priced_row t w.factors j) (λ row.
+    Ok (pricing (filed_as w.figures w.factors (rows_at stage ++ (row ∷ []))))))))
 
 -- F (70) or P (80), and only P after the first P line
 abbrev pub by_letter : {L : Type 0} → Rules L → Stage → ℕ → List ℕ → Result Stage Refusal
 by_letter t (entering f) letter line =
     cond (letter == 70) (then (figure_taken t f line) (λ g. Ok (entering g)))
     (cond (letter == 80) (project_taken t (entering f) line) (Err LetterOutOfPlace))
-by_letter t (pricing f p rows) letter line =
-    cond (letter == 80) (project_taken t (pricing f p rows) line) (Err LetterOutOfPlace)
+by_letter t (pricing p) letter line =
+    cond (letter == 80) (project_taken t (pricing p) line) (Err LetterOutOfPlace)
 
 abbrev pub line_taken : {L : Type 0} → Rules L → Stage → List ℕ → Result Stage Refusal
 line_taken t stage line = unless (whole line) NotALine (by_letter t stage (slice_index line 0) (take 56 line))
-
--- a worked sheet's figures and factors, and the priced projects
-pub record Filed : Type 0 where
-  pub figures : Figures
-  pub factors : Factors
-  pub rows : List Row
-
-abbrev pub filed_as : Figures → Factors → List Row → Filed
-filed_as f p rows = record { figures = f; factors = p; rows = rows }
 
 -- the refusal is about this line
 abbrev pub at : {X : Type 0} → ℕ → Result X Refusal → Result X LineRefusal
@@ -91,7 +92,7 @@ at n (Err why) = Err (at_line n why)
 -- a filing has a P line
 abbrev pub at_end : ℕ → Stage → Result Filed LineRefusal
 at_end n (entering f) = Err (at_line n NoProject)
-at_end n (pricing f p rows) = Ok (filed_as f p rows)
+at_end n (pricing p) = Ok p
 
 -- what lines give from a stage on, the first of them having this number
 abbrev pub from : {L : Type 0} → Rules L → ℕ → Stage → List (List ℕ) → Result Filed LineRefusal

@@ -9,10 +9,10 @@ use Rattle.filing.specs.declared.filing.Filing.TheVariants.{Mm, Cc}
 use Rattle.filing.specs.declared.refusal.LineRefusal.{LineRefusal}
 use Rattle.filing.specs.declared.refusal.Refusal.TheVariants.{FileTooLong, LetterOutOfPlace, MalformedField, NotALine, UnknownTemplate}
 use Rattle.filing.specs.Fields.{blank, columns_from}
-use Rattle.filing.specs.Filed.{Filed, entering, filed_as, from, seen}
+use Rattle.filing.specs.Filed.{Filed, entering, from, seen}
 use Rattle.filing.specs.Lines.{at_line, lines_of, short_enough, whole}
 use Rattle.filing.specs.Outcomes.{unless}
-use Rattle.filing.specs.Rows.{Row, rows_of}
+use Rattle.filing.specs.Rows.{Row}
 
 -- the templates
 pub data Attachment : Type 0 where
@@ -47,8 +47,8 @@ filed file = unless (short_enough file) (at_line 1 FileTooLong) (filed_lines (li
 
 -- what is seen of a filing
 abbrev pub view : Filing → Attachment × Filed
-view (Mm p) = (mm, filed_as p.sheet.figures p.sheet.factors (rows_of p.projects))
-view (Cc p) = (cc, filed_as p.sheet.figures p.sheet.factors (rows_of p.projects))
+view (Mm f) = (mm, f)
+view (Cc f) = (cc, f)
 
 abbrev pub rows_filed : Attachment × Filed → List Row
 rows_filed f = f.1.rows

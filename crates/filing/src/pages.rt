@@ -4,6 +4,7 @@ use crate::reader::Record;
 use crate::refusal::Refusal;
 use crate::sheet_lines::{finish, price};
 use sheets::{OpenSheet, Template, WorkedSheet};
+use std::marker::Model;
 
 pub(crate) mod calls;
 
@@ -14,14 +15,22 @@ pub struct Pages<T: Template> {
     pub projects: PricedProjects,
 }
 
+impl<T: Template> Model for Pages<T> {
+    ghost use Rattle.filing.specs.Filed.{Filed, filed_as};
+    ghost use Rattle.filing.specs.Rows.{rows_of};
+
+    ghost Value = { Filed };
+
+    ghost view = { λ p. filed_as p.sheet.figures p.sheet.factors (rows_of p.projects) };
+}
+
 impl<T: Template> Pages<T> {
     ghost use Rattle.std.specs.Prelude.{◌≡◌};
     ghost use Rattle.filing.specs.Filed.{Leaves, by_letter, entering, pricing, project_taken, seen};
-    ghost use Rattle.filing.specs.Rows.{rows_of};
 
     /// Finishes page 1 at the first P line, and prices its project.
     fn open(sheet: OpenSheet<T>, line: &[u8; 56]) -> Result<Pages<T>, Refusal>
-        ensures { seen (λ p. pricing p.sheet.figures p.sheet.factors (rows_of p.projects)) result ≡ project_taken T.rules (entering sheet.figures) line.now }
+        ensures { seen pricing result ≡ project_taken T.rules (entering sheet) line.now }
     {
         let filed = read_project(line)?;
         let sheet = finish(sheet)?;
@@ -34,10 +43,10 @@ impl<T: Template> Pages<T> {
 
     /// Adds the project of a P line.
     fn add(&mut self, line: &[u8; 56]) -> Result<(), Refusal>
-        ensures { Leaves (project_taken T.rules (pricing self.old.sheet.figures self.old.sheet.factors (rows_of self.old.projects)) line.now) result (pricing self.new.sheet.figures self.new.sheet.factors (rows_of self.new.projects)) }
+        ensures { Leaves (project_taken T.rules (pricing self.old) line.now) result (pricing self.new) }
     {
         let filed = read_project(line)?;
-        if !self.projects.has_room() {
+        if self.projects.is_full() {
             return Err(Refusal::TooManyProjects);
         }
         self.projects.push(price(&self.sheet, filed)?);
@@ -46,7 +55,7 @@ impl<T: Template> Pages<T> {
 
     /// Takes a line after the first P line.
     fn take(&mut self, line: Record) -> Result<(), Refusal>
-        ensures { Leaves (by_letter T.rules (pricing self.old.sheet.figures self.old.sheet.factors (rows_of self.old.projects)) line.entry.letter line.entry.bytes.now) result (pricing self.new.sheet.figures self.new.sheet.factors (rows_of self.new.projects)) }
+        ensures { Leaves (by_letter T.rules (pricing self.old) line.entry.letter line.entry.bytes.now) result (pricing self.new) }
     {
         match line.letter {
             'P' => self.add(line.bytes),

@@ -1,8 +1,11 @@
-ghost use Rattle.std.specs.Prelude.{◌≡◌, ◌≤◌, length, pos, ◌≤ℤ◌, unsigned_abs};
+ghost use Rattle.std.specs.Prelude.{◌≤◌, length, pos, ◌≤ℤ◌, unsigned_abs};
+ghost use Rattle.rows.specs.Rows.{rows_in};
 
+use rows::Rows;
 use sheets::{Columns, Project};
 
-mod calls;
+/// The most projects of a filing.
+const MOST: usize = 64;
 
 /// A project of a filing with its columns of page 2.
 #[derive(Clone, Copy)]
@@ -19,7 +22,43 @@ pub struct PricedProject {
 /// The projects of a filing in the order of its lines: 1 to 64 of them.
 #[derive(Clone, Copy)]
 pub struct PricedProjects {
-    rows: [PricedProject; 64],
-    count: usize,
-    ghost few: { (1 ≤ count) × (count ≤ 64) × (length rows ≡ 64) },
+    rows: Rows<PricedProject, MOST>,
+    ghost some: { 1 ≤ length (rows_in rows) },
+}
+
+impl PricedProjects {
+    ghost use Rattle.std.specs.Prelude.{◌≡◌, ◌<◌, ◌↔◌, [], ◌∷◌, ◌++◌, map, IsTrue};
+    ghost use Rattle.filing.specs.Rows.{row_of, rows_of};
+
+    /// One project.
+    pub(crate) fn of(first: PricedProject) -> PricedProjects
+        ensures { rows_of result ≡ row_of first ∷ [] }
+    {
+        let mut rows = Rows::new(first);
+        let _ = rows.push(first);
+        PricedProjects { rows }
+    }
+
+    /// Whether there are as many projects as there can be.
+    pub(crate) fn is_full(&self) -> bool
+        ensures { IsTrue result ↔ (64 ≤ length (rows_of self.now)) }
+    {
+        self.rows.is_full()
+    }
+
+    /// Adds a project after the others.
+    pub(crate) fn push(&mut self, project: PricedProject)
+        requires { length (rows_of self.old) < 64 }
+        ensures { rows_of self.new ≡ rows_of self.old ++ (row_of project ∷ []) }
+    {
+        let _ = self.rows.push(project);
+    }
+
+    /// The projects.
+    pub fn as_slice(&self) -> &[PricedProject]
+        ensures rows { map row_of result.now ≡ rows_of self.now }
+        ensures few { length result.now ≤ 64 }
+    {
+        self.rows.as_slice()
+    }
 }

@@ -1,4 +1,5 @@
-ghost use Rattle.std.specs.Prelude.{◌≡◌};
+ghost use Rattle.std.specs.Prelude.{◌≡◌, pos};
+ghost use Rattle.sheets.specs.Outcomes.{within as is_within};
 ghost use Rattle.filing.specs.Filed.{Leaves, entering, figure_taken, page_one_at, priced_row, seen};
 ghost use Rattle.filing.specs.Rows.{row_of};
 
@@ -15,7 +16,7 @@ pub(crate) fn enter_figure<T: Template>(
     sheet: &mut OpenSheet<T>,
     line: &[u8; 56],
 ) -> Result<(), Refusal>
-    ensures { Leaves (figure_taken T.rules sheet.old.figures line.now) result sheet.new.figures }
+    ensures { Leaves (figure_taken T.rules sheet.old line.now) result sheet.new }
 {
     let figure = read_figure(line)?;
     sheet.enter_labelled(figure.label, figure.amount)?;
@@ -24,9 +25,16 @@ pub(crate) fn enter_figure<T: Template>(
 
 /// Finishes page 1.
 pub(crate) fn finish<T: Template>(sheet: OpenSheet<T>) -> Result<WorkedSheet<T>, Refusal>
-    ensures { seen (λ w. (w.figures, w.factors)) result ≡ page_one_at T.rules (entering sheet.figures) }
+    ensures { result ≡ page_one_at T.rules (entering sheet) }
 {
     Ok(sheet.finish()?)
+}
+
+/// Whether this can be a project's number.
+fn number_fits(number: i64) -> bool
+    ensures { result ≡ is_within (pos 1) (pos 99999999) number }
+{
+    (1..=LARGEST_NUMBER).contains(&number)
 }
 
 /// Prices a filed project.
@@ -37,7 +45,7 @@ pub(crate) fn price<T: Template>(
     ensures { seen row_of result ≡ priced_row T.rules sheet.now.factors filed }
 {
     let FiledProject { number, project } = filed;
-    if !(1..=LARGEST_NUMBER).contains(&number) {
+    if !number_fits(number) {
         return Err(Refusal::ProjectNumberOutOfRange);
     }
     let columns = sheet.price(project)?;

@@ -1,5 +1,5 @@
 ghost use Rattle.std.specs.Prelude.{◌≡◌, length, OnOk};
-ghost use Rattle.filing.specs.Filed.{filed_as, seen};
+ghost use Rattle.filing.specs.Filed.{seen};
 ghost use Rattle.filing.specs.Filing.{filed, filed_under, rows_filed, sheet_filed, view};
 ghost use Rattle.filing.specs.Lines.{unread};
 ghost use Rattle.filing.specs.Records.{RecordsAndBytesDetermineEachOther};
@@ -20,7 +20,7 @@ const LONGEST: usize = 65_536;
 /// Reads a filing of this template, whose first line is the T line.
 fn read_sheet<T: Template>(line: Record, reader: FilingReader) -> Result<Pages<T>, LineRefusal>
     requires { (line.line ≡ 1) × (reader.lines ≡ 1) }
-    ensures { seen (λ p. filed_as p.sheet.figures p.sheet.factors (rows_of p.projects)) result ≡ sheet_filed T.rules line.entry.bytes.now (unread reader.entry) }
+    ensures { result ≡ sheet_filed T.rules line.entry.bytes.now (unread reader.entry) }
 {
     let columns = line.bytes;
     if !is_blank(&columns[4..]) {
@@ -50,9 +50,9 @@ fn read_whole(file: &[u8]) -> Result<Filing, LineRefusal>
         return Err(Refusal::FileTooLong.at_line(1));
     }
     let mut reader = FilingReader::new(file);
-    let Some(line) = reader.next_record()? else {
-        return Err(Refusal::LetterOutOfPlace.at_line(1));
-    };
+    let line = reader
+        .next_record()?
+        .ok_or(Refusal::LetterOutOfPlace.at_line(1))?;
     match line.letter {
         'T' => read_named(line, reader),
         _ => Err(line.refused(Refusal::LetterOutOfPlace)),

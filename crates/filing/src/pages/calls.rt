@@ -1,9 +1,8 @@
 ghost use Rattle.std.specs.Prelude.{◌≡◌, ◌+◌};
 ghost use Rattle.sheets.specs.Figures.{blank};
-ghost use Rattle.filing.specs.Filed.{entering, filed_as, from, pricing, seen};
+ghost use Rattle.filing.specs.Filed.{entering, from, pricing};
 ghost use Rattle.filing.specs.Lines.{unread};
 ghost use Rattle.filing.specs.Reading.{ReadsFigures};
-ghost use Rattle.filing.specs.Rows.{rows_of};
 
 use crate::pages::Pages;
 use crate::reader::{FilingReader, Record};
@@ -16,7 +15,7 @@ fn read_figures<'a, T: Template>(
     reader: &mut FilingReader<'a>,
     sheet: &mut OpenSheet<T>,
 ) -> Result<Record<'a>, LineRefusal>
-    ensures { ReadsFigures T.rules reader.old sheet.old.figures result reader.new sheet.new.figures }
+    ensures { ReadsFigures T.rules reader.old sheet.old result reader.new sheet.new }
 {
     'lines: while let Some(line) = reader.next_record()? {
         match line.letter {
@@ -35,7 +34,7 @@ fn price_rest<T: Template>(
     mut reader: FilingReader,
     mut pages: Pages<T>,
 ) -> Result<Pages<T>, LineRefusal>
-    ensures { seen (λ p. filed_as p.sheet.figures p.sheet.factors (rows_of p.projects)) result ≡ from T.rules (reader.entry.lines + 1) (pricing pages.sheet.figures pages.sheet.factors (rows_of pages.projects)) (unread reader.entry) }
+    ensures { result ≡ from T.rules (reader.entry.lines + 1) (pricing pages) (unread reader.entry) }
 {
     'lines: while let Some(line) = reader.next_record()? {
         line.answer(pages.take(line))?;
@@ -45,7 +44,7 @@ fn price_rest<T: Template>(
 
 /// Reads the lines after the T line.
 pub(crate) fn read_lines<T: Template>(mut reader: FilingReader) -> Result<Pages<T>, LineRefusal>
-    ensures { seen (λ p. filed_as p.sheet.figures p.sheet.factors (rows_of p.projects)) result ≡ from T.rules (reader.entry.lines + 1) (entering blank) (unread reader.entry) }
+    ensures { result ≡ from T.rules (reader.entry.lines + 1) (entering blank) (unread reader.entry) }
 {
     let mut sheet = OpenSheet::new();
     let line = read_figures(&mut reader, &mut sheet)?;

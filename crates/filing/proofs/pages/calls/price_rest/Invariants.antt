@@ -1,15 +1,14 @@
 use Rattle.std.proofs.Common.{◌≡◌, ◌+◌, ◌-◌}
 use Rattle.filing.specs.Filed.{from, pricing}
 use Rattle.filing.specs.Lines.{unread}
-use Rattle.filing.specs.Rows.{rows_of}
 use Rattle.filing.proofs.pages.calls.price_rest.Given as goal
 
 -- the lines that are left give what all of them give
 abbrev pub invariant-lines : goal.invariant-lines
 invariant-lines g l =
     let t = g.T.Template.rules in
-    from t (l.initial.reader.lines + 1) (pricing l.initial.pages.sheet.figures l.initial.pages.sheet.factors (rows_of l.initial.pages.projects)) (unread l.initial.reader)
-    ≡ from t (l.reader.lines + 1) (pricing l.pages.sheet.figures l.pages.sheet.factors (rows_of l.pages.projects)) (unread l.reader)
+    from t (l.initial.reader.lines + 1) (pricing l.initial.pages) (unread l.initial.reader)
+    ≡ from t (l.reader.lines + 1) (pricing l.pages) (unread l.reader)
 
 abbrev pub decreases-lines : goal.decreases-lines
 decreases-lines g l = 1150 - l.reader.lines

@@ -7,7 +7,7 @@ use Rattle.filing.proofs.pages.calls.read_figures.Given as goal
 abbrev pub invariant-lines : goal.invariant-lines
 invariant-lines g l =
     let t = g.T.Template.rules in
-    from t (l.initial.reader.lines + 1) (entering l.initial.sheet.figures) (unread l.initial.reader) ≡ from t (l.reader.lines + 1) (entering l.sheet.figures) (unread l.reader)
+    from t (l.initial.reader.lines + 1) (entering l.initial.sheet) (unread l.initial.reader) ≡ from t (l.reader.lines + 1) (entering l.sheet) (unread l.reader)
 
 abbrev pub decreases-lines : goal.decreases-lines
 decreases-lines g l = 1150 - l.reader.lines

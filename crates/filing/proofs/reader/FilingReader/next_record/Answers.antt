@@ -3,7 +3,7 @@ use Rattle.std.proofs.lemmas.Bool.{eqb-true}
 use Rattle.std.proofs.lemmas.List.{length-drop}
 use Rattle.filing.specs.Lines.{lines_of, next_line}
 use Rattle.filing.specs.declared.reader.FilingReader.{FilingReader}
-use Rattle.filing.proofs.Lines.{first_line, no_line, whole_is_first}
+use Rattle.filing.proofs.Lines.{first_line, no_line, first_line_is_long}
 use Rattle.filing.proofs.reader.FilingReader.next_record.Goals as goal
 
 pub returns-then-is_empty : goal.returns-then-is_empty
@@ -25,7 +25,7 @@ pub invariant_of-self : goal.invariant_of-self
 invariant_of-self c =
     let reader = c.args.self.now in
     let is = c.in-Some.ensures in
-    record { short = omega (arith, whole_is_first reader.rest.now is.0, ap length is.2, length-drop 57 reader.rest.now, reader.short) }
+    record { short = omega (arith, first_line_is_long reader.rest.now is.0, ap length is.2, length-drop 57 reader.rest.now, reader.short) }
 
 pub returns : goal.returns
 returns c =
