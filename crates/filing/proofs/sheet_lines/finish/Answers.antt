@@ -5,7 +5,6 @@ use Rattle.sheets.specs.Worked.{Worked}
 use Rattle.sheets.specs.declared.factors.Factors.{Factors}
 use Rattle.sheets.specs.declared.figures.Figures.{Figures}
 use Rattle.sheets.specs.declared.refusal.Refusal.{Refusal as SheetRefusal}
-use Rattle.filing.specs.declared.refusal.Refusal.{Refusal}
 use Rattle.filing.specs.declared.refusal.Refusal.TheVariants.{Sheet}
 use Rattle.filing.specs.Filed.{by_sheet}
 use Rattle.filing.specs.Outcomes.{then}
