@@ -1,6 +1,5 @@
 pub mod Digits
 pub mod Laws
-mod Loops
-mod Placing
+mod Library
 pub mod Spelling
 pub mod Widths

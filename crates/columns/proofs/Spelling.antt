@@ -1,5 +1,5 @@
 -- A number's text and the number that it spells.
-use Rattle.std.proofs.Common.{◌≡◌, ℕ, zero, suc, ◌<◌, ◌≤◌, true, false, cond, eqb, ◌⊎◌, List, [], ◌∷◌, ◌++◌, length, get_or, ℤ, pos, negsuc, neg_ℤ, Ok, Err, IsUtf8, IsAscii, sym, refl, ap, ◌∙◌, subst, inl, inr, ⊎_elim, arith, SFits}
+use Rattle.std.proofs.Common.{◌≡◌, ℕ, zero, suc, ◌<◌, ◌≤◌, true, false, cond, eqb, ◌⊎◌, List, [], ◌∷◌, ◌++◌, length, get_or, ℤ, pos, negsuc, neg_ℤ, Ok, Err, Result, IsUtf8, IsAscii, sym, refl, ap, ◌∙◌, subst, inl, inr, ⊎_elim, arith, SFits}
 use mir.Syntax.{w128}
 use Rattle.std.proofs.lemmas.Fmt.{IsAscii-from_digits}
 use Rattle.std.proofs.lemmas.Slice.Eq.{bytes_eq-Decides}
@@ -8,8 +8,10 @@ use Rattle.std.proofs.lemmas.Str.Parse.{without_leading_plus_none, digit_at}
 use Rattle.std.proofs.lemmas.Bool.{and_from, and_parts, cases_Bool, cases_lt, cond-false, cond-true, eqb-true, false≢true, le-ltb, lt-ltb, ltb-true, ne_eqb}
 use Rattle.std.proofs.lemmas.Str.{IsUtf8-from_ascii}
 use Rattle.std.proofs.lemmas.Bool.Decides.{nat_tests}
-use Rattle.std.specs.Str.Parse.{IsNumeral, without_leading_plus, without_leading_sign, starts_with_minus, signed_digits_value, digits_value}
+use Rattle.std.specs.Result.{MatchResult}
+use Rattle.std.specs.Str.Parse.{IsNumeral, ParsesSigned, without_leading_plus, without_leading_sign, starts_with_minus, signed_digits_value, digits_value}
 use Rattle.std.specs.Str.{bytes_eq}
+use Rattle.columns.specs.declared.refusal.Refusal.{Refusal}
 use Rattle.columns.specs.declared.refusal.Refusal.TheVariants.{NotANumber}
 use Rattle.columns.specs.Fields.{in_range, number_in, well_formed}
 use Rattle.columns.specs.Texts.{Spells, begins_plainly, digits_of, text_of}
@@ -124,3 +126,8 @@ number_spelled text t = sym (cond-true (well_formed text) _ _ t)
 pub text_not_space : (n : ℤ) → get_or (text_of n) 0 32 ≡ 32 → ⊥
 text_not_space (pos m) e = omega (arith, ap (λ bs. get_or bs 0 32) (text_at_least_zero m), first_digit m, get_or_default (digits_of m) 0 0 32 (some_digit m))
 text_not_space (negsuc m) e = omega arith
+
+-- what parsing a text that begins plainly gives
+pub number_parsed : {E : Type 0} (text : List ℕ) (p : Result ℤ E) (r : Result ℤ Refusal) → begins_plainly text ≡ true → ParsesSigned w128 10 text p → MatchResult p (λ n. r ≡ Ok n) (λ _. r ≡ Err NotANumber) → r ≡ number_in text
+number_parsed text (Ok n) r plain h e = e ∙ ap Ok h.1 ∙ number_spelled text (well_formed_from text plain h.0.0 h.0.1)
+number_parsed text (Err x) r plain h e = e ∙ not_a_number text (λ w. let q = well_formed_readable text w in h (q.0.2, q.1))

@@ -1,9 +1,8 @@
 -- What writing a number gives, by its width.
-use Rattle.std.proofs.Common.{◌≡◌, ℕ, suc, ◌+◌, ◌-◌, ◌^◌, ◌<◌, ◌≤◌, leb, List, ◌++◌, length, replicate, ℤ, pos, negsuc, nat_abs, Some, None, Option, ap, ◌∙◌, ⊎_elim, arith}
+use Rattle.std.proofs.Common.{◌≡◌, ℕ, suc, ◌+◌, ◌-◌, ◌^◌, ◌<◌, ◌≤◌, leb, List, ◌++◌, length, replicate, ℤ, pos, negsuc, nat_abs, ap, ◌∙◌, ⊎_elim, arith}
 use Rattle.std.proofs.lemmas.List.{length-append, length-replicate}
 use Rattle.std.proofs.lemmas.Bool.{cases_lt, cond-false, cond-true, le-leb, lt-leb}
-use Rattle.std.specs.Option.{SomeIff}
-use Rattle.columns.specs.Fields.{Begins, accepted, refused, right_justified, written}
+use Rattle.columns.specs.Fields.{accepted, refused, right_justified, written}
 use Rattle.columns.specs.Texts.{text_of, width_of}
 use Rattle.columns.proofs.Digits.{digits_within}
 use Rattle.columns.proofs.Spelling.{text_at_least_zero}
@@ -45,10 +44,9 @@ written_at_least_zero k m columns some h wide = written_where_it_fits columns (p
 pub written_within : (k : ℕ) (n : ℤ) (columns : List ℕ) → 0 < k → nat_abs n < 10 ^ k → k + 1 ≤ length columns → written columns n ≡ accepted (right_justified (length columns) n)
 written_within k n columns some h wide = written_where_it_fits columns n (omega (arith, width_within k n some h))
 
--- where a number begins, by the columns that its width leaves
-pub begins : (columns : List ℕ) (n : ℤ) (w : ℕ) (r : Option ℕ) → w ≡ width_of n → SomeIff r (w ≤ length columns) (length columns - w) → Begins columns n r
+-- a number that ends in the last column
+pub written_from : (columns : List ℕ) (n : ℤ) (first : ℕ) → width_of n + first ≡ length columns → written columns n ≡ accepted (replicate first 32 ++ text_of n)
 unfolding right_justified
-begins columns n w None e told = refused_where_too_wide columns n (omega arith)
-begins columns n w (Some first) e told =
+written_from columns n first e =
     let is : length columns - width_of n ≡ first = omega arith in
-    (omega arith, written_where_it_fits columns n (omega arith) ∙ ap (λ k. accepted (replicate k 32 ++ text_of n)) is)
+    written_where_it_fits columns n (omega arith) ∙ ap (λ k. accepted (replicate k 32 ++ text_of n)) is

@@ -1,5 +1,5 @@
 -- A number in its columns: what a field reads as, what writing a number gives, and what holds between the two.
-use Rattle.std.specs.Prelude.{◌≡◌, ℕ, ◌+◌, ◌-◌, ◌^◌, Bool, true, cond, ◌&&◌, List, [], ◌∷◌, ◌++◌, length, replicate, ℤ, Some, None, Ok, Err, Option, Result, ◌==◌, nat_le, nat_lt}
+use Rattle.std.specs.Prelude.{◌≡◌, ℕ, ◌-◌, ◌^◌, Bool, true, cond, ◌&&◌, List, [], ◌∷◌, ◌++◌, length, replicate, ℤ, Ok, Err, Result, ◌==◌, nat_le, nat_lt}
 use Rattle.std.specs.Int.Signed.{mag}
 use Rattle.std.specs.Str.Parse.{signed_digits_value}
 use Rattle.std.specs.Str.{bytes_eq}
@@ -55,11 +55,6 @@ refused columns = record { answer = Err TooWide; after = columns }
 -- a number written into columns: right-justified where it fits them, and else refused
 unfoldable pub written : List ℕ → ℤ → Writing
 written columns n = cond (nat_le (width_of n) (length columns)) (accepted (right_justified (length columns) n)) (refused columns)
-
--- where a number begins that ends in the last column, if it fits the columns
-abbrev pub Begins : List ℕ → ℤ → Option ℕ → Type 0
-Begins columns n None = written columns n ≡ refused columns
-Begins columns n (Some first) = (first + width_of n ≡ length columns) × (written columns n ≡ accepted (replicate first 32 ++ text_of n))
 
 -- r is the number that the field holds, the only one, and a refusal where it holds none in range
 pub record ReadsWhatIsHeld (field : List ℕ) (r : Result ℤ Refusal) : Type 0 where
