@@ -27,7 +27,7 @@ rows_within [] = tt
 rows_within (r ∷ rs) = (record { project = omega (arith, ints, r.project_from_zero, r.project_to_limit); amounts = row_amounts r }, rows_within rs)
 
 -- a sum is at most as many times the limit as there are rows
-sum_from : (a : Amount) (start : ℤ) (rows : List PageLine) → AllByRecursion (Within 120000000000) rows → nat_abs (fold (λ sum row. sum +ℤ amount_in a row) start rows) ≤ nat_abs start + 120000000000 * length rows
+pub sum_from : (a : Amount) (start : ℤ) (rows : List PageLine) → AllByRecursion (Within 120000000000) rows → nat_abs (fold (λ sum row. sum +ℤ amount_in a row) start rows) ≤ nat_abs start + 120000000000 * length rows
 sum_from a start [] h = omega arith
 sum_from a start (r ∷ rs) h = omega (arith, ints, sum_from a (start +ℤ amount_in a r) rs h.1, h.0.amounts a)
 

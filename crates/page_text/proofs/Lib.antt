@@ -1,6 +1,5 @@
 mod Adding
 mod Bounds
 mod Columns
-mod InUse
 mod Placing
 mod Reading

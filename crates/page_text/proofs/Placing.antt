@@ -1,17 +1,19 @@
 -- A text printed at the start of some bytes, and one more after it.
-use Rattle.std.proofs.Common.{◌≡◌, ℕ, ◌+◌, ◌-◌, ◌<◌, ◌≤◌, List, [], ◌∷◌, ◌++◌, map, length, get_or, take, drop, set, sym, ap, ◌∙◌, subst, append_assoc, add-one, arith}
+use Rattle.std.proofs.Common.{◌≡◌, ℕ, ◌+◌, ◌-◌, ◌<◌, ◌≤◌, List, [], ◌∷◌, ◌++◌, map, length, get_or, take, drop, set, sym, refl, ap, ◌∙◌, subst, append_assoc, add-one, arith}
 use borrow.Rule.Slice.PartMut.{put_mid}
 use Rattle.std.proofs.lemmas.List.{append-nil, drop_all, drop_at, drop-drop, flat_map_more, length-append, length-drop, length_push, map_more, set_split, take_all, take_at, take_rest}
 use Rattle.std.specs.List.{flat_map}
 use Rattle.page_text.specs.Outcomes.{Gives, printed}
 
-pub printed_next : (before was is xs ys : List ℕ) (at r : ℕ) → Gives (printed xs before) at was → Gives (printed ys (take (length was - at) (drop at was))) r is →
-    Gives (printed (xs ++ ys) before) (at + r) (put_mid at (length was - at) was is)
-printed_next before was is xs ys at r p q =
+-- n bytes are left from there on
+pub printed_next : (before was is xs ys : List ℕ) (at r n : ℕ) → length was - at ≡ n → Gives (printed xs before) at was → Gives (printed ys (take n (drop at was))) r is →
+    Gives (printed (xs ++ ys) before) (at + r) (put_mid at n was is)
+printed_next before was is xs ys at r n left p q =
     let front : take at was ≡ xs = ap (take at) p.1 ∙ take_at xs _ at (sym p.0) in
     let rest : drop at was ≡ drop (length xs) before = ap (drop at) p.1 ∙ drop_at xs _ at (sym p.0) in
-    let none : drop (length was - at) (drop at was) ≡ [] = drop_all (length was - at) (drop at was) (simp length-drop (omega arith)) in
-    let here : is ≡ ys ++ drop (length ys) (drop (length xs) before) = q.1 ∙ ap (λ zs. ys ++ drop (length ys) zs) (take_rest was at ∙ rest) in
+    let none : drop n (drop at was) ≡ [] = drop_all n (drop at was) (simp length-drop (omega arith)) in
+    let whole : take n (drop at was) ≡ drop (length xs) before = ap (λ k. take k (drop at was)) (sym left) ∙ take_rest was at ∙ rest in
+    let here : is ≡ ys ++ drop (length ys) (drop (length xs) before) = q.1 ∙ ap (λ zs. ys ++ drop (length ys) zs) whole in
     (omega (arith, length-append xs ys), rw (front, none, append-nil, here, drop-drop, length-append) (sym (append_assoc xs ys _)))
 
 pub printed_byte : (before was xs : List ℕ) (at b : ℕ) → at < length was → Gives (printed xs before) at was → Gives (printed (xs ++ (b ∷ [])) before) (at + 1) (set was at b)
@@ -30,7 +32,7 @@ module _ {X Y : Type 0} (text : X → List ℕ) (view : Y → X) (ys : List Y) (
       Gives (printed (flat_map text (map view (take i ys))) before) at was → Gives (printed (text (view y)) (take (length was - at) (drop at was))) r is →
       Gives (printed (flat_map text (map view (take (i + 1) ys))) before) (at + r) (put_mid at (length was - at) was is)
   printed_more before was is at r y h e p q =
-      subst (λ xs. Gives (printed xs before) (at + r) (put_mid at (length was - at) was is)) (sym (joined_next y h e)) (printed_next before was is _ _ at r p q)
+      subst (λ xs. Gives (printed xs before) (at + r) (put_mid at (length was - at) was is)) (sym (joined_next y h e)) (printed_next before was is _ _ at r (length was - at) refl p q)
 
   pub printed_all : (before was : List ℕ) (at : ℕ) → length ys ≤ i → Gives (printed (flat_map text (map view (take i ys))) before) at was → Gives (printed (flat_map text (map view ys)) before) at was
   printed_all before was at h = subst (λ zs. Gives (printed (flat_map text (map view zs)) before) at was) (take_all i ys h)

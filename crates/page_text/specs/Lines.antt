@@ -3,16 +3,6 @@ use Rattle.std.specs.Prelude.{ℕ, List, [], ◌∷◌, ◌++◌, ℤ, pos, ◌+
 use Rattle.std.specs.List.{flat_map}
 use Rattle.page_text.specs.Fields.{PageField, fields_text, newline}
 use Rattle.page_text.specs.Rows.{PageLine}
-use Rattle.page_text.specs.declared.line.Line.{Line}
-
-abbrev pub line_of : Line → PageLine
-line_of l = record {
-  project_number = l.project_number;
-  annual_expense_charge = l.annual_expense_charge;
-  annual_return_charge = l.annual_return_charge;
-  depreciation_expense = l.depreciation_expense;
-  annual_revenue_requirement = l.annual_revenue_requirement;
-}
 
 -- a number in some columns
 abbrev pub in_columns : ℕ → ℤ → PageField

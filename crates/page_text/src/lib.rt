@@ -5,13 +5,14 @@
 mod field;
 mod line;
 mod page;
+mod page_rows;
 mod refusal;
 mod row;
-mod rows;
 #[cfg(test)]
 mod tests;
 
 pub use page::write_rows;
+pub use page_rows::PageRows;
 pub use refusal::write_refusal;
 pub use row::PageRow;
-pub use rows::PageRows;
+pub use rows::Full;

@@ -1,21 +1,87 @@
-ghost use Rattle.std.specs.Prelude.{◌≤◌, unsigned_abs};
+ghost use Rattle.std.specs.Prelude.{◌≡◌, ◌+◌, ◌≤◌, ◌++◌, map, length, unsigned_abs};
+ghost use Rattle.page_text.specs.Fields.{field_of, fields_text, fields_width, newline};
+ghost use Rattle.page_text.specs.Lines.{in_columns, line_fields, sums_of};
+ghost use Rattle.page_text.specs.Outcomes.{Gives, printed};
+ghost use Rattle.page_text.specs.Rows.{row_of};
 
-mod calls;
-mod sums;
+use crate::field::Field;
+use crate::row::PageRow;
 
-pub(crate) use sums::sums;
+/// How wide the project number's columns are.
+const PROJECT_COLUMNS: usize = 12;
 
-/// The numbers of a line of the pages: those of a row, or the sums of up to 64 rows.
-#[derive(Clone, Copy)]
-pub(crate) struct Line {
-    project_number: i64,
-    annual_expense_charge: i64,
-    annual_return_charge: i64,
-    depreciation_expense: i64,
-    annual_revenue_requirement: i64,
-    ghost project_range: { unsigned_abs project_number ≤ 99999999 },
-    ghost expense_charge_range: { unsigned_abs annual_expense_charge ≤ 7680000000000 },
-    ghost return_charge_range: { unsigned_abs annual_return_charge ≤ 7680000000000 },
-    ghost depreciation_range: { unsigned_abs depreciation_expense ≤ 7680000000000 },
-    ghost requirement_range: { unsigned_abs annual_revenue_requirement ≤ 7680000000000 },
+/// How wide each amount's columns are.
+const AMOUNT_COLUMNS: usize = 14;
+
+/// A project number in its columns.
+fn project(number: i64) -> Field
+    requires { unsigned_abs number ≤ 99999999 }
+    ensures { field_of result ≡ in_columns 12 number }
+{
+    Field {
+        columns: PROJECT_COLUMNS,
+        number,
+    }
+}
+
+/// An amount in its columns: that of a row, or the sum over up to 64 rows.
+fn amount(number: i64) -> Field
+    requires { unsigned_abs number ≤ 7680000000000 }
+    ensures { field_of result ≡ in_columns 14 number }
+{
+    Field {
+        columns: AMOUNT_COLUMNS,
+        number,
+    }
+}
+
+/// The fields of a row's line, from the left.
+pub(crate) fn row_fields(row: &PageRow) -> [Field; 5]
+    ensures { map field_of result ≡ line_fields (row_of row.now) }
+{
+    [
+        project(row.project_number),
+        amount(row.annual_expense_charge),
+        amount(row.annual_return_charge),
+        amount(row.depreciation_expense),
+        amount(row.annual_revenue_requirement),
+    ]
+}
+
+/// The fields of the line of the sums: project number 0 and the sum of each column.
+pub(crate) fn sums_fields(rows: &[PageRow]) -> [Field; 5]
+    requires { length rows.now ≤ 64 }
+    ensures { map field_of result ≡ line_fields (sums_of (map row_of rows.now)) }
+{
+    [
+        project(0),
+        amount(rows.iter().map(|row| row.annual_expense_charge).sum()),
+        amount(rows.iter().map(|row| row.annual_return_charge).sum()),
+        amount(rows.iter().map(|row| row.depreciation_expense).sum()),
+        amount(rows.iter().map(|row| row.annual_revenue_requirement).sum()),
+    ]
+}
+
+/// Writes fields one after another at the start of the bytes; answers how long they are.
+fn write_fields(bytes: &mut [u8], fields: &[Field]) -> usize
+    requires { fields_width (map field_of fields.now) ≤ length bytes.old }
+    ensures text { Gives (printed (fields_text (map field_of fields.now)) bytes.old) result bytes.new }
+    ensures columns { result ≡ fields_width (map field_of fields.now) }
+{
+    let mut at = 0;
+    for field in fields {
+        at += field.write(&mut bytes[at..]);
+    }
+    at
+}
+
+/// Writes fields and a newline at the start of the bytes; answers how long they are.
+pub(crate) fn write_line(bytes: &mut [u8], fields: &[Field]) -> usize
+    requires { fields_width (map field_of fields.now) + 1 ≤ length bytes.old }
+    ensures text { Gives (printed (fields_text (map field_of fields.now) ++ newline) bytes.old) result bytes.new }
+    ensures columns { result ≡ fields_width (map field_of fields.now) + 1 }
+{
+    let end = write_fields(bytes, fields);
+    bytes[end] = b'\n';
+    end + 1
 }

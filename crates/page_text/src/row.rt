@@ -2,7 +2,7 @@ ghost use Rattle.std.specs.Prelude.{◌≤◌, pos, ◌≤ℤ◌, unsigned_abs};
 
 /// A priced project as a line of the pages has it, in dollars. The ranges keep every number, and
 /// every sum over 64 rows, within its columns.
-#[derive(Clone, Copy)]
+#[derive(Clone, Copy, PartialEq, Eq, Debug)]
 pub struct PageRow {
     pub project_number: i64,
     pub annual_expense_charge: i64,

@@ -1,4 +1,4 @@
-use crate::{PageRow, PageRows, write_refusal, write_rows};
+use crate::{Full, PageRow, PageRows, write_refusal, write_rows};
 use std::process::Abort;
 
 /// A priced project of Attachment MM.
@@ -30,7 +30,7 @@ fn holds(rt: &impl Abort, run: &[u8; 4485], text: &[u8]) {
 #[test]
 fn one_row_and_its_sums(rt: HostRuntime) {
     let mut rows = PageRows::new();
-    assert!(rt; rows.push(EXAMPLE));
+    assert_eq!(rt; rows.push(EXAMPLE), Ok(()));
     let mut run = [b'?'; 4485];
     assert_eq!(rt; write_rows(&mut run, &rows), 138);
     holds(
@@ -57,9 +57,9 @@ fn no_rows(rt: HostRuntime) {
 fn sixty_four_rows_are_full(rt: HostRuntime) {
     let mut rows = PageRows::new();
     for _ in 0..64 {
-        assert!(rt; rows.push(WIDEST));
+        assert_eq!(rt; rows.push(WIDEST), Ok(()));
     }
-    assert!(rt; !rows.push(EXAMPLE));
+    assert_eq!(rt; rows.push(EXAMPLE), Err(Full));
     assert_eq!(rt; rows.len(), 64);
     let mut run = [b'?'; 4485];
     assert_eq!(rt; write_rows(&mut run, &rows), 4485);

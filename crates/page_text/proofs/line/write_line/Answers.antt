@@ -1,7 +1,7 @@
 use Rattle.std.proofs.Common.{map, arith}
 use Rattle.page_text.specs.Fields.{field_of, fields_text}
 use Rattle.page_text.proofs.Placing.{printed_byte}
-use Rattle.page_text.proofs.field.writing.write_ended.Goals as goal
+use Rattle.page_text.proofs.line.write_line.Goals as goal
 
 pub returns : goal.returns
 returns c = record {

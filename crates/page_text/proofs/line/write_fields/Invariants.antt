@@ -1,7 +1,7 @@
 use Rattle.std.proofs.Common.{◌≡◌, ◌+◌, map, take, drop}
 use Rattle.page_text.specs.Fields.{field_of, fields_text, fields_width}
 use Rattle.page_text.specs.Outcomes.{Gives, printed}
-use Rattle.page_text.proofs.field.writing.write_fields.Given as goal
+use Rattle.page_text.proofs.line.write_fields.Given as goal
 
 -- the fields before this one are written, and their columns and those of the others are all
 abbrev pub invariant-loop-field : goal.invariant-loop-field

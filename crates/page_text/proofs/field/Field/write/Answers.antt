@@ -6,16 +6,16 @@ use Rattle.columns.specs.Fields.{Gives, right_justified, written}
 use Rattle.columns.specs.Texts.{width_of}
 use Rattle.columns.proofs.Widths.{right_justified_fills}
 use Rattle.page_text.proofs.Columns.{accepted_there, wide_enough}
-use Rattle.page_text.proofs.field.writing.write_field.Goals as goal
-use Rattle.page_text.proofs.field.writing.write_field.Goals.{After-write_number}
+use Rattle.page_text.proofs.field.Field.write.Goals as goal
+use Rattle.page_text.proofs.field.Field.write.Goals.{After-write_number}
 
-narrow : (c : After-write_number) → width_of c.args.field.now.number ≤ c.args.field.now.columns
-narrow c = let f = c.args.field.now in wide_enough f.columns f.number f.two_columns f.fits
+narrow : (c : After-write_number) → width_of c.args.self.now.number ≤ c.args.self.now.columns
+narrow c = let f = c.args.self.now in wide_enough f.columns f.number f.two_columns f.fits
 
 -- the number is written into its columns
-wrote : (c : After-write_number) → (c.write_number.result ≡ Ok tt) × (c.write_number.new.field ≡ right_justified c.args.field.now.columns c.args.field.now.number)
+wrote : (c : After-write_number) → (c.write_number.result ≡ Ok tt) × (c.write_number.new.field ≡ right_justified c.args.self.now.columns c.args.self.now.number)
 wrote c =
-    let f = c.args.field.now in
+    let f = c.args.self.now in
     let fits : SFits w64 f.number = search rules in
     let number : to_z w128 (of_z w128 c.from.result) ≡ f.number = omega (arith, ints) in
     accepted_there f.columns f.number (take f.columns c.args.bytes.now) c.write_number.new.field c.write_number.result
@@ -24,7 +24,7 @@ wrote c =
 
 pub returns : goal.returns
 returns c =
-    let f = c.args.field.now in
+    let f = c.args.self.now in
     let before = (goal.at.returns c).After-write_number in
     let long = right_justified_fills f.columns f.number (narrow before) in
     record { text = (sym long, rw (long, (wrote before).1)); columns = refl }

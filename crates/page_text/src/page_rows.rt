@@ -1,0 +1,62 @@
+ghost use Rattle.std.specs.Prelude.{◌≡◌, ◌≤◌, List, [], map, length};
+ghost use Rattle.page_text.specs.Outcomes.{Gives};
+ghost use Rattle.page_text.specs.Rows.{PageLine, pushed, row_of};
+ghost use Rattle.rows.specs.Rows.{rows_in};
+
+use crate::row::PageRow;
+use rows::{Full, Rows};
+use std::marker::Model;
+
+/// What stands in a place that is not in use.
+const BLANK: PageRow = PageRow {
+    project_number: 0,
+    annual_expense_charge: 0,
+    annual_return_charge: 0,
+    depreciation_expense: 0,
+    annual_revenue_requirement: 0,
+};
+
+/// Up to 64 rows of a page in the order in which they print.
+#[derive(Drop)]
+pub struct PageRows {
+    rows: Rows<PageRow, 64>,
+}
+
+impl Model for PageRows {
+    ghost Value = { List PageLine };
+
+    ghost view = { λ page. map row_of (rows_in page.rows) };
+}
+
+impl PageRows {
+    /// No rows.
+    pub fn new() -> Self
+        ensures { result ≡ [] }
+    {
+        PageRows {
+            rows: Rows::new(BLANK),
+        }
+    }
+
+    /// Adds a row after the others; where they are 64, they stay as they are.
+    pub fn push(&mut self, row: PageRow) -> Result<(), Full>
+        ensures { Gives (pushed self.old (row_of row)) result self.new }
+    {
+        self.rows.push(row)
+    }
+
+    /// The rows in use.
+    pub(crate) fn as_slice(&self) -> &[PageRow]
+        ensures rows { map row_of result.now ≡ self.now }
+        ensures few { length result.now ≤ 64 }
+    {
+        self.rows.as_slice()
+    }
+
+    /// How many rows there are.
+    pub fn len(&self) -> usize
+        ensures { result ≡ length self.now }
+    {
+        self.as_slice().len()
+    }
+}
