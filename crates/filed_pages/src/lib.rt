@@ -5,12 +5,12 @@ ghost use Rattle.std.specs.Prelude.{◌≡◌, ◌≤◌, map, length};
 ghost use Rattle.filing.specs.Rows.{row_of as priced_row};
 ghost use Rattle.filed_pages.specs.Texts.{filing_text, page_line};
 ghost use Rattle.page_text.specs.Outcomes.{Gives, printed};
-ghost use Rattle.page_text.specs.Rows.{row_of as printed_row, rows_of as printed_rows};
+ghost use Rattle.page_text.specs.Rows.{row_of as printed_row};
 
 use filing::{PricedProject, read_filing};
 use page_text::{PageRow, PageRows, write_refusal, write_rows};
 
-/// The line of a priced project.
+/// The line of a priced project. No `From`: neither type is of this crate.
 fn page_row(project: &PricedProject) -> PageRow
     ensures { printed_row result ≡ page_line (priced_row project.now) }
 {
@@ -26,11 +26,11 @@ fn page_row(project: &PricedProject) -> PageRow
 /// The lines of priced projects, in their order.
 fn page_rows(projects: &[PricedProject]) -> PageRows
     requires { length projects.now ≤ 64 }
-    ensures { printed_rows result ≡ map page_line (map priced_row projects.now) }
+    ensures { result ≡ map page_line (map priced_row projects.now) }
 {
     let mut rows = PageRows::new();
     for project in projects {
-        let _ = rows.push(page_row(project));
+        rows.push(page_row(project)).unwrap();
     }
     rows
 }
