@@ -4,7 +4,6 @@ ghost use Rattle.filing.specs.Refusals.{number_of};
 ghost use Rattle.filing.specs.declared.refusal.Refusal.TheVariants.{MalformedField, Sheet};
 
 use sheets::{OpenSheet, Template};
-
 use std::error::Error;
 use std::fmt;
 
@@ -87,6 +86,11 @@ impl From<columns::Refusal> for Refusal {
 
 /// What was wrong, for a person; a sheet's refusal says it itself.
 impl fmt::Display for Refusal {
+    ghost use Rattle.std.specs.Prelude.{Some};
+    ghost use Rattle.filing.specs.Refusals.{sentence_of};
+
+    ghost output = { λ refusal. Some (sentence_of refusal) };
+
     fn fmt<W: fmt::Write>(&self, f: &mut fmt::Formatter<W>) -> fmt::Result {
         f.write_str(match self {
             Refusal::ProjectNumberOutOfRange => "a project number is 1 to 99,999,999",
