@@ -1,5 +1,5 @@
 ghost use Rattle.std.specs.Prelude.{◌≡◌, ◌^◌, ◌≤◌, unsigned_abs, refl};
-ghost use Rattle.sheets.specs.Attachments.{MmLinesAddUp, mm_adjusted_om, mm_deductions, mm_net_plant, mm_other_om, mm_rules, mm_transmission_om};
+ghost use Rattle.sheets.specs.Attachments.{MmLinesAddUp, mm_adjusted_om, mm_net_plant, mm_other_om, mm_rules, mm_transmission_om};
 ghost use Rattle.std.proofs.Common.{arith, rules};
 ghost use Rattle.std.proofs.lemmas.Int.{ints};
 ghost use Rattle.sheets.specs.declared.figures.Figure.TheVariants.{GrossPlant, AccumulatedDepreciation, TotalOm, TransmissionOm, LseExpenses, Account565, GeneralDepreciation, OtherTaxes, IncomeTaxes, ReturnOnRateBase};
@@ -35,20 +35,13 @@ fn net_plant(figures: &Figures) -> i128
     figures.amount(Figure::GrossPlant) - figures.amount(Figure::AccumulatedDepreciation)
 }
 
-/// Lines 3b and 3c, which line 3d leaves out of line 3a.
-fn deductions(figures: &Figures) -> i128
-    ensures value { result ≡ mm_deductions figures.now }
-    ensures bound { unsigned_abs result ≤ 2 ^ 64 }
-{
-    figures.amount(Figure::LseExpenses) + figures.amount(Figure::Account565)
-}
-
-/// Line 3d.
+/// Line 3d: line 3a less lines 3b and 3c.
 fn adjusted_om(figures: &Figures) -> i128
     ensures value { result ≡ mm_adjusted_om figures.now }
     ensures bound { unsigned_abs result ≤ 2 ^ 65 }
 {
-    figures.amount(Figure::TransmissionOm) - deductions(figures)
+    let deductions = figures.amount(Figure::LseExpenses) + figures.amount(Figure::Account565);
+    figures.amount(Figure::TransmissionOm) - deductions
 }
 
 /// Line 4a: line 3 less line 3d.
