@@ -1,5 +1,5 @@
 -- The lines of a filing, as a reader takes them from the bytes.
-use Rattle.std.proofs.Common.{◌≡◌, ℕ, suc, ◌<◌, ◌≤◌, true, false, not, ◌&&◌, eqb, List, [], ◌∷◌, length, get_or, take, drop, sym, refl, ap, ◌∙◌, ⊎_elim, arith}
+use Rattle.std.proofs.Common.{◌≡◌, ℕ, suc, ◌<◌, ◌≤◌, true, false, not, ◌&&◌, eqb, List, [], ◌∷◌, length, get_or, take, drop, sym, refl, ap, ◌∙◌, ⊎_elim, arith, false-eqb}
 use Rattle.std.specs.List.{list_any}
 use Rattle.std.specs.Cmp.Lexicographic.{pointwise}
 use Rattle.std.proofs.lemmas.List.{get_or-drop, get_or_past, get_or-take, length-drop, length-take, take-take}
@@ -44,13 +44,13 @@ pub first_line_is_long : (rest : List ℕ) → whole (take 57 rest) ≡ true →
 first_line_is_long rest h = omega (arith, whole_is_long (take 57 rest) h, length-take 57 rest)
 
 -- no bytes, no line
-pub no_line : (rest : List ℕ) → length rest ≡ 0 → lines_of rest ≡ []
+pub no_line : (rest : List ℕ) → true ≡ eqb (length rest) 0 → lines_of rest ≡ []
 unfolding lines_of
-no_line rest e = let n : line_count rest ≡ 0 = omega arith in ap (λ k. cut k rest) n
+no_line rest none = let n : line_count rest ≡ 0 = omega (arith, eqb-true _ 0 (sym none)) in ap (λ k. cut k rest) n
 
 -- the first line, and those after it
-pub first_line : (rest : List ℕ) → 0 < length rest → lines_of rest ≡ take 57 rest ∷ lines_of (drop 57 rest)
+pub first_line : (rest : List ℕ) → false ≡ eqb (length rest) 0 → lines_of rest ≡ take 57 rest ∷ lines_of (drop 57 rest)
 unfolding lines_of
 first_line rest some =
-    let n : line_count rest ≡ suc (line_count (drop 57 rest)) = omega (arith, length-drop 57 rest) in
+    let n : line_count rest ≡ suc (line_count (drop 57 rest)) = omega (arith, length-drop 57 rest, false-eqb _ 0 some) in
     ap (λ k. cut k rest) n

@@ -4,7 +4,7 @@ use Rattle.sheets.specs.Factors.{hundredths}
 use Rattle.sheets.specs.Outcomes.{within}
 use Rattle.sheets.specs.Pricing.{priced}
 use Rattle.sheets.specs.Rules.{Rules}
-use Rattle.sheets.specs.Sheets.{entered_labelled, finished}
+use Rattle.sheets.specs.Sheets.{Finish, entered_labelled, finish_outcome}
 use Rattle.sheets.specs.Worked.{Worked}
 use Rattle.sheets.specs.declared.factors.Factors.{Factors}
 use Rattle.sheets.specs.declared.figures.Figures.{Figures}
@@ -48,9 +48,14 @@ figure_entered t f x = let e = entered_labelled t x.0 x.1 f in after_entry e.ans
 abbrev pub figure_taken : {L : Type 0} → Rules L → Figures → List ℕ → Result Figures Refusal
 figure_taken t f line = then (figure_on line) (figure_entered t f)
 
+-- a finished sheet, or the sheet's refusal as the filing's
+abbrev pub by_finish : Finish → Result Worked Refusal
+by_finish (Ok w) = Ok w
+by_finish (Err refused) = Err (Sheet refused.0)
+
 -- page 1 is finished at the first P line
 abbrev pub page_one_at : {L : Type 0} → Rules L → Stage → Result Worked Refusal
-page_one_at t (entering f) = then (by_sheet (finished hundredths t f)) (λ p. Ok (record { figures = f; factors = p }))
+page_one_at t (entering f) = by_finish (finish_outcome hundredths t f)
 page_one_at t (pricing p) = Ok (record { figures = p.figures; factors = p.factors })
 
 abbrev pub rows_at : Stage → List Row

@@ -56,7 +56,7 @@ pub record PartOf (reader : FilingReader) (r : Record) : Type 0 where
 
 -- the reader stands one line further in the same file
 pub record OneLineOn (before after : FilingReader) : Type 0 where
-  pub same_file : after.rest.now ≡ drop 57 before.rest.now
+  pub rest_follows_the_line : after.rest.now ≡ drop 57 before.rest.now
   pub one_line_less : unread before ≡ next_line before ∷ unread after
   pub one_line_more : after.lines ≡ before.lines + 1
 

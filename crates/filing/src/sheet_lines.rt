@@ -3,7 +3,7 @@ ghost use Rattle.sheets.specs.Outcomes.{within as is_within};
 ghost use Rattle.filing.specs.Filed.{Leaves, entering, figure_taken, page_one_at, priced_row, seen};
 ghost use Rattle.filing.specs.Rows.{row_of};
 
-use crate::fields::{FiledProject, read_figure};
+use crate::fields::{FiledFigure, FiledProject, read_figure};
 use crate::priced_projects::PricedProject;
 use crate::refusal::Refusal;
 use sheets::{OpenSheet, Template, WorkedSheet};
@@ -18,8 +18,8 @@ pub(crate) fn enter_figure<T: Template>(
 ) -> Result<(), Refusal>
     ensures { Leaves (figure_taken T.rules sheet.old line.now) result sheet.new }
 {
-    let figure = read_figure(line)?;
-    sheet.enter_labelled(figure.label, figure.amount)?;
+    let FiledFigure { label, amount } = read_figure(line)?;
+    sheet.enter_labelled(label, amount)?;
     Ok(())
 }
 

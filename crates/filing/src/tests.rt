@@ -28,10 +28,8 @@ fn two_templates() -> &'static str {
 
 /// The line and the question that refuse a filing.
 fn refused(file: &str) -> Option<(u16, u8)> {
-    match read_filing(file.as_bytes()) {
-        Ok(_) => None,
-        Err(why) => Some((why.line, why.refusal.number())),
-    }
+    let why = read_filing(file.as_bytes()).err()?;
+    Some((why.line, why.refusal.number()))
 }
 
 #[test]

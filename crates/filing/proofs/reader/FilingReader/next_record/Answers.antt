@@ -1,25 +1,14 @@
-use Rattle.std.proofs.Common.{◌≡◌, ◌<◌, false, length, eqb, sym, refl, ap, ◌∙◌, arith, false-eqb, rules, ◌∷◌}
-use Rattle.std.proofs.lemmas.Bool.{eqb-true}
+use Rattle.std.proofs.Common.{refl, sym, ap, ◌∷◌, ◌∙◌, length, arith, rules}
 use Rattle.std.proofs.lemmas.List.{length-drop}
 use Rattle.filing.specs.Lines.{lines_of, next_line}
-use Rattle.filing.specs.declared.reader.FilingReader.{FilingReader}
-use Rattle.filing.proofs.Lines.{first_line, no_line, first_line_is_long}
+use Rattle.filing.proofs.Lines.{first_line, first_line_is_long, no_line}
 use Rattle.filing.proofs.reader.FilingReader.next_record.Goals as goal
 
 pub returns-then-is_empty : goal.returns-then-is_empty
-returns-then-is_empty c = (no_line _ (eqb-true _ 0 (sym c.if-is_empty.ensures)), refl)
-
-some_left : (reader : FilingReader) → false ≡ eqb (length reader.rest.now) 0 → 0 < length reader.rest.now
-some_left reader some = omega (arith, false-eqb _ 0 some)
+returns-then-is_empty c = (no_line _ c.if-is_empty.ensures, refl)
 
 pub returns-in_default : goal.returns-in_default
-returns-in_default c =
-    let reader = c.args.self.now in (
-      c.in_default.ensures,
-      first_line reader.rest.now (some_left reader c.if-is_empty.ensures),
-      search rules,
-      refl,
-    )
+returns-in_default c = (c.in_default.ensures, first_line _ c.if-is_empty.ensures, search rules, refl)
 
 pub invariant_of-self : goal.invariant_of-self
 invariant_of-self c =
@@ -29,7 +18,6 @@ invariant_of-self c =
 
 pub returns : goal.returns
 returns c =
-    let reader = c.args.self.now in
     let is = c.in-Some.ensures in (
       is.0,
       record {
@@ -39,8 +27,8 @@ returns c =
         has_the_next_number = search rules;
       },
       record {
-        same_file = is.2;
-        one_line_less = first_line reader.rest.now (some_left reader c.if-is_empty.ensures) ∙ ap (λ bytes. next_line reader ∷ lines_of bytes) (sym is.2);
+        rest_follows_the_line = is.2;
+        one_line_less = first_line _ c.if-is_empty.ensures ∙ ap (λ bytes. next_line c.args.self.now ∷ lines_of bytes) (sym is.2);
         one_line_more = search rules;
       },
     )
