@@ -42,7 +42,7 @@ pub(crate) struct FilingReader<'a> {
 }
 
 impl<'a> FilingReader<'a> {
-    ghost use Rattle.std.specs.Prelude.{true, false, take, drop, MatchOption};
+    ghost use Rattle.std.specs.Prelude.{true, false, take, drop, IfSome, MatchOption};
     ghost use Rattle.filing.specs.Lines.{Nexts, Opens, next_line, whole};
 
     /// A reader at the start of a filing.
@@ -65,7 +65,8 @@ impl<'a> FilingReader<'a> {
 
     /// The columns of the next line, and what follows it.
     fn next_line(&self) -> Option<(&'a [u8; 56], &'a [u8])>
-        ensures { MatchOption result (whole (next_line self.now) ≡ false) (λ p. (whole (next_line self.now) ≡ true) × (p.0.now ≡ take 56 (next_line self.now)) × (p.1.now ≡ drop 57 self.now.rest.now)) }
+        ensures whole_line { MatchOption result (whole (next_line self.now) ≡ false) (λ line. (whole (next_line self.now) ≡ true) × (line.0.now ≡ take 56 (next_line self.now))) }
+        ensures rest_follows { IfSome result (λ line. line.1.now ≡ drop 57 self.now.rest.now) }
     {
         let (columns, after) = self.rest.split_first_chunk()?;
         if columns.contains(&b'\n') {

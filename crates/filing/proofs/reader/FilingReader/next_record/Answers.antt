@@ -8,27 +8,27 @@ pub returns-then-is_empty : goal.returns-then-is_empty
 returns-then-is_empty c = (no_line _ c.if-is_empty.ensures, refl)
 
 pub returns-in_default : goal.returns-in_default
-returns-in_default c = (c.in_default.ensures, first_line _ c.if-is_empty.ensures, search rules, refl)
+returns-in_default c = (c.in_default.ensures.whole_line, first_line _ c.if-is_empty.ensures, search rules, refl)
 
 pub invariant_of-self : goal.invariant_of-self
 invariant_of-self c =
     let reader = c.args.self.now in
     let is = c.in-Some.ensures in
-    record { short = omega (arith, first_line_is_long reader.rest.now is.0, ap length is.2, length-drop 57 reader.rest.now, reader.short) }
+    record { short = omega (arith, first_line_is_long reader.rest.now is.whole_line.0, ap length is.rest_follows, length-drop 57 reader.rest.now, reader.short) }
 
 pub returns : goal.returns
 returns c =
     let is = c.in-Some.ensures in (
-      is.0,
+      is.whole_line.0,
       record {
-        bytes_are_the_next_line = is.1;
+        bytes_are_the_next_line = is.whole_line.1;
         letter_is_its_first_byte = search rules;
         stands_at_its_offset = search rules;
         has_the_next_number = search rules;
       },
       record {
-        rest_follows_the_line = is.2;
-        one_line_less = first_line _ c.if-is_empty.ensures ∙ ap (λ bytes. next_line c.args.self.now ∷ lines_of bytes) (sym is.2);
+        rest_follows_the_line = is.rest_follows;
+        one_line_less = first_line _ c.if-is_empty.ensures ∙ ap (λ bytes. next_line c.args.self.now ∷ lines_of bytes) (sym is.rest_follows);
         one_line_more = search rules;
       },
     )
