@@ -1,7 +1,7 @@
 -- A text printed at the start of some bytes, and one more after it.
-use Rattle.std.proofs.Common.{◌≡◌, ℕ, ◌+◌, ◌-◌, ◌<◌, ◌≤◌, List, [], ◌∷◌, ◌++◌, map, length, get_or, take, drop, set, sym, refl, ap, ◌∙◌, subst, append_assoc, add-one, arith}
+use Rattle.std.proofs.Common.{◌≡◌, ℕ, ◌+◌, ◌-◌, ◌<◌, ◌≤◌, List, [], ◌∷◌, ◌++◌, length, get_or, take, drop, set, sym, refl, ap, ◌∙◌, subst, append_assoc, add-one, arith}
 use borrow.Rule.Slice.PartMut.{put_mid}
-use Rattle.std.proofs.lemmas.List.{append-nil, drop_all, drop_at, drop-drop, flat_map_more, length-append, length-drop, length_push, map_more, set_split, take_all, take_at, take_rest}
+use Rattle.std.proofs.lemmas.List.{append-nil, drop_all, drop_at, drop-drop, flat_map_more, length-append, length-drop, length_push, set_split, take_all, take_at, take_more, take_rest}
 use Rattle.std.specs.List.{flat_map}
 use Rattle.page_text.specs.Outcomes.{Gives, printed}
 
@@ -24,15 +24,15 @@ printed_byte before was xs at b h p =
     (omega (arith, length_push xs b), set_split was at b h ∙ rw (front, ← add-one, past, length_push) (sym (append_assoc xs (b ∷ []) _)))
 
 -- the texts of a list one after another: one more, and all
-module _ {X Y : Type 0} (text : X → List ℕ) (view : Y → X) (ys : List Y) (i : ℕ) where
-  joined_next : (y : Y) → i < length ys → y ≡ get_or ys i y → flat_map text (map view (take (i + 1) ys)) ≡ flat_map text (map view (take i ys)) ++ text (view y)
-  joined_next y h e = ap (flat_map text) (map_more view ys i y h) ∙ sym (flat_map_more text [] (map view (take i ys)) (view (get_or ys i y))) ∙ ap (λ z. flat_map text (map view (take i ys)) ++ text (view z)) (sym e)
+module _ {X : Type 0} (text : X → List ℕ) (xs : List X) (i : ℕ) where
+  joined_next : (x : X) → i < length xs → x ≡ get_or xs i x → flat_map text (take (i + 1) xs) ≡ flat_map text (take i xs) ++ text x
+  joined_next x h e = ap (flat_map text) (take_more xs i x h) ∙ sym (flat_map_more text [] (take i xs) (get_or xs i x)) ∙ ap (λ z. flat_map text (take i xs) ++ text z) (sym e)
 
-  pub printed_more : (before was is : List ℕ) (at r : ℕ) (y : Y) → i < length ys → y ≡ get_or ys i y →
-      Gives (printed (flat_map text (map view (take i ys))) before) at was → Gives (printed (text (view y)) (take (length was - at) (drop at was))) r is →
-      Gives (printed (flat_map text (map view (take (i + 1) ys))) before) (at + r) (put_mid at (length was - at) was is)
-  printed_more before was is at r y h e p q =
-      subst (λ xs. Gives (printed xs before) (at + r) (put_mid at (length was - at) was is)) (sym (joined_next y h e)) (printed_next before was is _ _ at r (length was - at) refl p q)
+  pub printed_more : (before was is : List ℕ) (at r : ℕ) (x : X) → i < length xs → x ≡ get_or xs i x →
+      Gives (printed (flat_map text (take i xs)) before) at was → Gives (printed (text x) (take (length was - at) (drop at was))) r is →
+      Gives (printed (flat_map text (take (i + 1) xs)) before) (at + r) (put_mid at (length was - at) was is)
+  printed_more before was is at r x h e p q =
+      subst (λ ys. Gives (printed ys before) (at + r) (put_mid at (length was - at) was is)) (sym (joined_next x h e)) (printed_next before was is _ _ at r (length was - at) refl p q)
 
-  pub printed_all : (before was : List ℕ) (at : ℕ) → length ys ≤ i → Gives (printed (flat_map text (map view (take i ys))) before) at was → Gives (printed (flat_map text (map view ys)) before) at was
-  printed_all before was at h = subst (λ zs. Gives (printed (flat_map text (map view zs)) before) at was) (take_all i ys h)
+  pub printed_all : (before was : List ℕ) (at : ℕ) → length xs ≤ i → Gives (printed (flat_map text (take i xs)) before) at was → Gives (printed (flat_map text xs) before) at was
+  printed_all before was at h = subst (λ ys. Gives (printed (flat_map text ys) before) at was) (take_all i xs h)

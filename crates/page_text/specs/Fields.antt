@@ -2,14 +2,10 @@
 use Rattle.std.specs.Prelude.{ℕ, List, [], ◌∷◌, ℤ, sum_by}
 use Rattle.std.specs.List.{flat_map}
 use Rattle.columns.specs.Fields.{right_justified}
-use Rattle.page_text.specs.declared.field.Field.{Field}
 
 pub record PageField : Type 0 where
   pub columns : ℕ
   pub number : ℤ
-
-abbrev pub field_of : Field → PageField
-field_of f = record { columns = f.columns; number = f.number }
 
 abbrev pub field_text : PageField → List ℕ
 field_text f = right_justified f.columns f.number

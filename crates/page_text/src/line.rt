@@ -1,5 +1,5 @@
 ghost use Rattle.std.specs.Prelude.{◌≡◌, ◌+◌, ◌≤◌, ◌++◌, map, length, unsigned_abs};
-ghost use Rattle.page_text.specs.Fields.{field_of, fields_text, fields_width, newline};
+ghost use Rattle.page_text.specs.Fields.{fields_text, fields_width, newline};
 ghost use Rattle.page_text.specs.Lines.{in_columns, line_fields, sums_of};
 ghost use Rattle.page_text.specs.Outcomes.{Gives, printed};
 ghost use Rattle.page_text.specs.Rows.{row_of};
@@ -16,7 +16,7 @@ const AMOUNT_COLUMNS: usize = 14;
 /// A project number in its columns.
 fn project(number: i64) -> Field
     requires { unsigned_abs number ≤ 99999999 }
-    ensures { field_of result ≡ in_columns 12 number }
+    ensures { result ≡ in_columns 12 number }
 {
     Field {
         columns: PROJECT_COLUMNS,
@@ -27,7 +27,7 @@ fn project(number: i64) -> Field
 /// An amount in its columns: that of a row, or the sum over up to 64 rows.
 fn amount(number: i64) -> Field
     requires { unsigned_abs number ≤ 7680000000000 }
-    ensures { field_of result ≡ in_columns 14 number }
+    ensures { result ≡ in_columns 14 number }
 {
     Field {
         columns: AMOUNT_COLUMNS,
@@ -37,7 +37,7 @@ fn amount(number: i64) -> Field
 
 /// The fields of a row's line, from the left.
 pub(crate) fn row_fields(row: &PageRow) -> [Field; 5]
-    ensures { map field_of result ≡ line_fields (row_of row.now) }
+    ensures { result ≡ line_fields (row_of row.now) }
 {
     [
         project(row.project_number),
@@ -51,7 +51,7 @@ pub(crate) fn row_fields(row: &PageRow) -> [Field; 5]
 /// The fields of the line of the sums: project number 0 and the sum of each column.
 pub(crate) fn sums_fields(rows: &[PageRow]) -> [Field; 5]
     requires { length rows.now ≤ 64 }
-    ensures { map field_of result ≡ line_fields (sums_of (map row_of rows.now)) }
+    ensures { result ≡ line_fields (sums_of (map row_of rows.now)) }
 {
     [
         project(0),
@@ -64,10 +64,11 @@ pub(crate) fn sums_fields(rows: &[PageRow]) -> [Field; 5]
 
 /// Writes fields one after another at the start of the bytes; answers how long they are.
 fn write_fields(bytes: &mut [u8], fields: &[Field]) -> usize
-    requires { fields_width (map field_of fields.now) ≤ length bytes.old }
-    ensures text { Gives (printed (fields_text (map field_of fields.now)) bytes.old) result bytes.new }
-    ensures columns { result ≡ fields_width (map field_of fields.now) }
+    requires { fields_width fields.now ≤ length bytes.old }
+    ensures text { Gives (printed (fields_text fields.now) bytes.old) result bytes.new }
+    ensures columns { result ≡ fields_width fields.now }
 {
+    // By offset: no plainer form, since each field has a width of its own.
     let mut at = 0;
     for field in fields {
         at += field.write(&mut bytes[at..]);
@@ -77,9 +78,9 @@ fn write_fields(bytes: &mut [u8], fields: &[Field]) -> usize
 
 /// Writes fields and a newline at the start of the bytes; answers how long they are.
 pub(crate) fn write_line(bytes: &mut [u8], fields: &[Field]) -> usize
-    requires { fields_width (map field_of fields.now) + 1 ≤ length bytes.old }
-    ensures text { Gives (printed (fields_text (map field_of fields.now) ++ newline) bytes.old) result bytes.new }
-    ensures columns { result ≡ fields_width (map field_of fields.now) + 1 }
+    requires { fields_width fields.now + 1 ≤ length bytes.old }
+    ensures text { Gives (printed (fields_text fields.now ++ newline) bytes.old) result bytes.new }
+    ensures columns { result ≡ fields_width fields.now + 1 }
 {
     let end = write_fields(bytes, fields);
     bytes[end] = b'\n';

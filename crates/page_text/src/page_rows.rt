@@ -1,4 +1,4 @@
-ghost use Rattle.std.specs.Prelude.{◌≡◌, ◌≤◌, List, [], map, length};
+ghost use Rattle.std.specs.Prelude.{◌≡◌, ◌≤◌, ◌↔◌, List, [], IsTrue, map, length};
 ghost use Rattle.page_text.specs.Outcomes.{Gives};
 ghost use Rattle.page_text.specs.Rows.{PageLine, pushed, row_of};
 ghost use Rattle.rows.specs.Rows.{rows_in};
@@ -58,5 +58,12 @@ impl PageRows {
         ensures { result ≡ length self.now }
     {
         self.as_slice().len()
+    }
+
+    /// Whether there are no rows.
+    pub fn is_empty(&self) -> bool
+        ensures { IsTrue result ↔ (self.now ≡ []) }
+    {
+        self.as_slice().is_empty()
     }
 }

@@ -1,5 +1,4 @@
-ghost use Rattle.std.specs.Prelude.{◌≡◌, ◌≤◌, map};
-ghost use Rattle.page_text.specs.Fields.{field_of};
+ghost use Rattle.std.specs.Prelude.{◌≡◌, ◌≤◌};
 ghost use Rattle.page_text.specs.Lines.{refusal_fields, refusal_text};
 ghost use Rattle.page_text.specs.Outcomes.{Gives, printed};
 ghost use Rattle.page_text.specs.ReadBack.{RefusalReadsBack};
@@ -9,7 +8,7 @@ use crate::line::write_line;
 
 /// The fields after the letter: the line's number in 11 columns, the refusal's in 12.
 fn refusal_fields(line: u16, number: u8) -> [Field; 2]
-    ensures { map field_of result ≡ refusal_fields line number }
+    ensures { result ≡ refusal_fields line number }
 {
     [
         Field {
