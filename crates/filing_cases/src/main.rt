@@ -10,12 +10,12 @@ use std::io::Read;
 /// A filing of the table.
 #[derive(Drop)]
 struct Case<'a> {
-    name: &'a str,
+    name: &'a [u8],
     file: &'a [u8],
 }
 
 /// The cases of a table. Each is a line with the number of bytes, a space and the name, and then
-/// the bytes.
+/// the bytes. What stands before the space and is no digit counts for nothing.
 #[derive(Drop)]
 struct Cases<'a>(&'a [u8]);
 
@@ -26,11 +26,21 @@ impl<'a> Iterator for Cases<'a> {
 
     fn next(&mut self) -> Option<Case<'a>> {
         let table = self.0;
-        let end = table.iter().position(|byte| *byte == b'\n')?;
-        let (length, name) = str::from_utf8(&table[..end]).ok()?.split_once(' ')?;
-        let (file, rest) = table[end + 1..].split_at_checked(length.parse().ok()?)?;
-        self.0 = rest;
-        Some(Case { name, file })
+        let space = table.iter().position(|byte| *byte == b' ')?;
+        let length = table[..space]
+            .iter()
+            .filter_map(|byte| char::from(*byte).to_digit(10))
+            .fold(0usize, |length, digit| {
+                length.saturating_mul(10).saturating_add(digit as usize)
+            });
+        let rest = &table[space + 1..];
+        let end = rest.iter().position(|byte| *byte == b'\n')?;
+        let (file, after) = rest[end + 1..].split_at_checked(length)?;
+        self.0 = after;
+        Some(Case {
+            name: &rest[..end],
+            file,
+        })
     }
 }
 
@@ -40,7 +50,8 @@ fn main(rt: HostRuntime) -> io::Result<()> {
     for Case { name, file } in Cases(&table) {
         let mut run = [b'?'; 4485];
         let length = write_pages(file, &mut run);
-        println!(rt; "{name}")?;
+        rt.write_all(name)?;
+        rt.write_all(b"\n")?;
         rt.write_all(&run[..length])?;
     }
     Ok(())
