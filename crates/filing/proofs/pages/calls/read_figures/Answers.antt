@@ -28,4 +28,4 @@ pub returns-in-P : goal.returns-in-P
 returns-in-P g c =
     let line = c.in-Some.line in
     let n : Nexts c.lines.reader (Ok (Some line)) c.next_record.new.self = search rules in
-    record { gives_the_same = c.lines.invariant ∙ project_line g.T.Template.rules c.lines.reader c.next_record.new.self line c.lines.sheet n c.in-P.is }
+    record { gives_the_same = rw c.lines.invariant (project_line g.T.Template.rules c.lines.reader c.next_record.new.self line c.lines.sheet n c.in-P.is) }
