@@ -49,6 +49,7 @@ fn number_in(field: &[u8]) -> Result<i64, Refusal>
     requires { length field.now ≤ 12 }
     ensures { result ≡ number_in field.now }
 {
+    // a proved cast: try_from would ask at run time what 12 columns already keep
     Ok(read_number(field)? as i64)
 }
 

@@ -20,6 +20,7 @@ pub struct PricedProject {
 }
 
 /// The projects of a filing in the order of its lines: 1 to 64 of them.
+// no model: its view would forget the places not in use, and the type is to stay Copy
 #[derive(Clone, Copy)]
 pub struct PricedProjects {
     rows: Rows<PricedProject, MOST>,

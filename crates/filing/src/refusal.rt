@@ -35,15 +35,13 @@ impl Refusal {
     pub fn number(self) -> u8
         ensures { result ≡ number_of self }
     {
+        // no discriminants: some refusals share a number, and the sheet's have their own
         match self {
             Refusal::ProjectNumberOutOfRange => 1,
-            Refusal::FileTooLong => 29,
-            Refusal::NotALine => 29,
-            Refusal::LetterOutOfPlace => 30,
-            Refusal::UnknownTemplate => 30,
+            Refusal::FileTooLong | Refusal::NotALine => 29,
+            Refusal::LetterOutOfPlace | Refusal::UnknownTemplate => 30,
             Refusal::MalformedField => 31,
-            Refusal::TooManyProjects => 32,
-            Refusal::NoProject => 32,
+            Refusal::TooManyProjects | Refusal::NoProject => 32,
             Refusal::Sheet(refusal) => refusal.number(),
         }
     }
