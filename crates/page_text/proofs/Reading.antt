@@ -1,7 +1,9 @@
 -- A printed text reads back.
-use Rattle.std.proofs.Common.{◌≡◌, ℕ, ◌+◌, ◌-◌, ◌*◌, ◌^◌, ◌<◌, ◌≤◌, true, List, [], ◌∷◌, ◌++◌, map, length, get_or, take, drop, ℤ, pos, negsuc, ◌+ℤ◌, nat_abs, Ok, fold, sym, refl, ap, ◌∙◌, subst, append_assoc, arith}
+use Rattle.std.proofs.Common.{◌≡◌, ℕ, ◌+◌, ◌-◌, ◌*◌, ◌^◌, ◌<◌, ◌≤◌, true, List, [], ◌∷◌, ◌++◌, map, length, get_or, take, drop, ℤ, pos, negsuc, ◌+ℤ◌, nat_abs, Ok, sym, refl, ap, ◌∙◌, subst, append_assoc, arith}
 use Rattle.std.proofs.ByRecursion.{All-get_or, All-take, All-weaker}
 use Rattle.std.proofs.lemmas.List.{drop_at, drop-drop, drop_more, ext_get_or, get_or_append_left, get_or_at, get_or_default, get_or-map, length-append, length-map, length_push, length-take-le, take-append-drop, take_at}
+use Rattle.std.proofs.lemmas.Grind.{flat_map-append}
+use Rattle.std.proofs.lemmas.List.Folds.{fold-map}
 use Rattle.std.proofs.lemmas.List.Sums.{sum_by-cons}
 use Rattle.std.proofs.lemmas.Bool.{lt-ltb}
 use Rattle.std.specs.List.{flat_map, AllByRecursion}
@@ -27,14 +29,10 @@ unfolding right_justified
 reads_itself columns n h = held_is_read _ n (in_range_small n h) (columns - width_of n, refl)
 
 -- the texts of a list from member k on
-joined_append : {X : Type 0} (text : X → List ℕ) (xs ys : List X) → flat_map text (xs ++ ys) ≡ flat_map text xs ++ flat_map text ys
-joined_append text [] ys = refl
-joined_append text (x ∷ xs) ys = ap (λ zs. text x ++ zs) (joined_append text xs ys) ∙ sym (append_assoc (text x) (flat_map text xs) (flat_map text ys))
-
 from_member : {X : Type 0} (text : X → List ℕ) (xs : List X) (k : ℕ) (x : X) (rest : List ℕ) (n : ℕ) → k < length xs → x ≡ get_or xs k x → length (flat_map text (take k xs)) ≡ n →
     drop n (flat_map text xs ++ rest) ≡ text x ++ (flat_map text (drop (k + 1) xs) ++ rest)
 from_member text xs k x rest n short e long =
-    let split : flat_map text xs ≡ flat_map text (take k xs) ++ flat_map text (drop k xs) = ap (flat_map text) (sym (take-append-drop k xs)) ∙ joined_append text (take k xs) (drop k xs) in
+    let split : flat_map text xs ≡ flat_map text (take k xs) ++ flat_map text (drop k xs) = ap (flat_map text) (sym (take-append-drop k xs)) ∙ flat_map-append text (take k xs) (drop k xs) in
     ap (λ t. drop n (t ++ rest)) split
     ∙ ap (drop n) (append_assoc (flat_map text (take k xs)) (flat_map text (drop k xs)) rest)
     ∙ drop_at (flat_map text (take k xs)) (flat_map text (drop k xs) ++ rest) n long
@@ -81,10 +79,6 @@ line_reads ls rest k l h short e =
       amounts_are_read = λ a. ap (λ t. reading (take 14 t)) (sym (drop-drop (columns_before a) (69 * k) (flat_map line_text ls ++ rest)) ∙ ap (drop (columns_before a)) start) ∙ amount_reads a l (newline ++ more) w;
     }
 
-total_of_column : (a : Amount) (start : ℤ) (rows : List PageLine) → fold (λ sum row. sum +ℤ amount_in a row) start rows ≡ fold ◌+ℤ◌ start (map (amount_in a) rows)
-total_of_column a start [] = refl
-total_of_column a start (r ∷ rs) = total_of_column a (start +ℤ amount_in a r) rs
-
 pub page_reads_back : (rows : List PageLine) (rest : List ℕ) → length rows ≤ 64 → AllByRecursion (Within 120000000000) rows → PageReadsBack rows (page_text rows ++ rest)
 unfolding page_text
 page_reads_back rows rest few h =
@@ -105,7 +99,7 @@ page_reads_back rows rest few h =
           let is = (each k row (omega arith) (get_or_default rows k (sums_of rows) row (omega arith))).amounts_are_read a in
           let one : get_or amounts k (pos 0) ≡ amount_in a row = cc in
           one ∙ sym (get_or-map (amount_in a) rows k (sums_of rows) (pos 0) (omega arith))) in
-          last.amounts_are_read a ∙ ap Ok (amount_sum a rows ∙ total_of_column a (pos 0) rows ∙ ap total (sym same));
+          last.amounts_are_read a ∙ ap Ok (amount_sum a rows ∙ sym (fold-map ◌+ℤ◌ (amount_in a) (pos 0) rows) ∙ ap total (sym same));
       no_number_is_too_wide = All-weaker (Within 7680000000000) (λ l. AllByRecursion WideEnough (line_fields l)) fields_wide_enough (page_lines rows) all;
     }
 
