@@ -12,7 +12,7 @@ mod sheet_lines;
 mod tests;
 
 pub use filing::Filing;
-pub use filing::calls::{read_filing, read_pages};
+pub use filing::calls::{LONGEST, read_filing, read_pages};
 pub use pages::Pages;
 pub use priced_projects::{PricedProject, PricedProjects};
 pub use refusal::{LineRefusal, Refusal};

@@ -1,15 +1,14 @@
 #![tactic(auto)]
 
 use filed_pages::write_pages;
+use filing::LONGEST;
 use std::io;
 use std::io::Read;
 
-/// One byte more than the longest filing, so that a longer one is seen to be too long.
-const ENOUGH: u64 = 65_537;
-
 fn main(rt: HostRuntime) -> io::Result<()> {
     let mut file = Vec::new(rt.alloc());
-    rt.stdin().take(ENOUGH).read_to_end(&mut file)?;
+    // One byte more, so that a longer filing is seen to be too long.
+    rt.stdin().take(LONGEST as u64 + 1).read_to_end(&mut file)?;
     let mut run = [b' '; 4485];
     let length = write_pages(&file, &mut run);
     rt.write_all(&run[..length])

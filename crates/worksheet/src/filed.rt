@@ -1,11 +1,8 @@
 use crate::layout::Printed;
 use crate::pages::{Row, print_pages};
-use filing::{Filing, LineRefusal, Pages, read_pages};
+use filing::{Filing, LONGEST, LineRefusal, Pages, read_pages};
 use std::io;
 use std::io::Read;
-
-/// One byte more than the longest filing, so that a longer one is seen to be too long.
-const ENOUGH: u64 = 65_537;
 
 fn print_filed<T: Printed>(rt: &(impl Print + AllocGlobal), pages: &Pages<T>) -> io::Result<()> {
     let rows: Vec<Row> = pages
@@ -20,7 +17,8 @@ fn print_filed<T: Printed>(rt: &(impl Print + AllocGlobal), pages: &Pages<T>) ->
 /// Prints both pages of the filing that is read, or why it is refused.
 pub fn show_filing(rt: &(impl Print + AllocGlobal), input: impl Read + Drop) -> io::Result<()> {
     let mut file = Vec::new(rt.alloc());
-    input.take(ENOUGH).read_to_end(&mut file)?;
+    // One byte more, so that a longer filing is seen to be too long.
+    input.take(LONGEST as u64 + 1).read_to_end(&mut file)?;
     match read_pages(&file) {
         Ok(Filing::Mm(pages)) => print_filed(rt, &pages),
         Ok(Filing::Cc(pages)) => print_filed(rt, &pages),

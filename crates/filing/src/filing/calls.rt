@@ -15,7 +15,7 @@ use crate::refusal::{LineRefusal, Refusal};
 use sheets::Template;
 
 /// The bytes of the longest filing.
-const LONGEST: usize = 65_536;
+pub const LONGEST: usize = 65_536;
 
 /// Reads a filing of this template, whose first line is the T line.
 fn read_sheet<T: Template>(line: Record, reader: FilingReader) -> Result<Pages<T>, LineRefusal>
