@@ -26,17 +26,21 @@ fn missing<T: Printed>(
     heap: Global,
     sheet: &OpenSheet<T>,
 ) -> Result<Vec<&'static str>, AllocError> {
-    T::layout()
-        .first_lines
+    let first_lines = T::layout().first_lines;
+    let mut missing = Vec::new(heap);
+    for line in first_lines
         .iter()
         .chain(&EXPENSE_LINES)
         .chain(&RETURN_LINES)
-        .filter(|line| match line.shows {
-            Shows::Entered(figure) => sheet.figure(figure).is_none(),
-            _ => false,
-        })
-        .map(|line| line.label)
-        .collect(heap)
+    {
+        // A loop: in a closure it is not proved that the sheet may be asked.
+        if let Shows::Entered(figure) = line.shows {
+            if sheet.figure(figure).is_none() {
+                missing.push(line.label)?;
+            }
+        }
+    }
+    Ok(missing)
 }
 
 /// Finishes page 1 and says what became of it; a refused sheet comes back open.
