@@ -18,6 +18,7 @@ impl Refusal {
     pub fn number(self) -> u8
         ensures { result ≡ number_of self }
     {
+        // no discriminants: the two share a number
         match self {
             Refusal::NotANumber | Refusal::TooWide => 31,
         }

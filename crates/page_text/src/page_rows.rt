@@ -8,6 +8,7 @@ use rows::{Full, Rows};
 use std::marker::Model;
 
 /// What stands in a place that is not in use.
+// A constant: over ghost fields no `Default` is derived.
 const BLANK: PageRow = PageRow {
     project_number: 0,
     annual_expense_charge: 0,

@@ -25,6 +25,7 @@ impl fmt::Display for Full {
 impl Error for Full {}
 
 /// Up to `MOST` rows in the order in which they were added; the first `count` places are in use.
+// An array and a count: no call of a library allocates.
 pub struct Rows<T, const MOST: usize> {
     places: [T; MOST],
     count: usize,
@@ -34,6 +35,7 @@ pub struct Rows<T, const MOST: usize> {
 
 impl<T: Copy, const MOST: usize> Copy for Rows<T, MOST> {}
 
+// By hand: over ghost fields no `Clone` is derived.
 impl<T: Copy, const MOST: usize> Clone for Rows<T, MOST> {
     ghost is_clone = { λ rows copy. copy ≡ rows };
 

@@ -8,6 +8,7 @@ use std::fmt::Display;
 use std::{fmt, io};
 
 /// A project with its columns.
+// No `PricedProject`: its number has a range, and the built-in task is asked for none.
 #[derive(Clone, Copy)]
 pub struct Row {
     pub number: i64,
