@@ -1,51 +1,49 @@
 -- Two worked sheets and their projects.
-use Rattle.std.specs.Prelude.{ℕ, List, [], ◌∷◌, ℤ, pos, Some, None, Ok, Err, Option, Result}
+use Rattle.std.specs.Prelude.{ℕ, ℤ, pos, Some, None, Ok, Err, Option, Result}
 use Rattle.sheets.specs.declared.factors.Factors.{Factors}
-use Rattle.sheets.specs.declared.figures.Figure.{Figure}
-use Rattle.sheets.specs.declared.figures.Figure.TheVariants.{GrossPlant, AccumulatedDepreciation, NetPlant, TotalOm, TransmissionOm, LseExpenses, Account565, GeneralDepreciation, OtherTaxes, IncomeTaxes, ReturnOnRateBase}
 use Rattle.sheets.specs.declared.figures.Figures.{Figures}
 use Rattle.sheets.specs.declared.pricing.Columns.{Columns}
 use Rattle.sheets.specs.declared.pricing.Project.{Project}
 use Rattle.sheets.specs.declared.refusal.Refusal.{Refusal}
 use Rattle.sheets.specs.Factors.{hundredths}
-use Rattle.sheets.specs.Figures.{blank, with_figure}
 use Rattle.sheets.specs.Pricing.{priced}
 use Rattle.sheets.specs.Rules.{Rules}
 use Rattle.sheets.specs.Sheets.{finished}
 
--- a sheet of these amounts, in dollars, and no other
-abbrev sheet_of : List (Figure × ℕ) → Figures
-sheet_of [] = blank
-sheet_of (entry ∷ entries) = with_figure entry.0 (Some (pos entry.1)) (sheet_of entries)
+abbrev dollars : ℕ → Option ℤ
+dollars n = Some (pos n)
 
 -- an Attachment MM sheet
 abbrev pub mm_figures : Figures
-mm_figures =
-    sheet_of
-    ((GrossPlant, 1000000000)
-    ∷ (AccumulatedDepreciation, 400000000)
-    ∷ (TotalOm, 30000000)
-    ∷ (TransmissionOm, 12000000)
-    ∷ (LseExpenses, 1000000)
-    ∷ (Account565, 1000000)
-    ∷ (GeneralDepreciation, 3000000)
-    ∷ (OtherTaxes, 12000000)
-    ∷ (IncomeTaxes, 18000000)
-    ∷ (ReturnOnRateBase, 42000000)
-    ∷ [])
+mm_figures = record {
+  gross_plant = dollars 1000000000;
+  accumulated_depreciation = dollars 400000000;
+  net_plant = None;
+  total_om = dollars 30000000;
+  transmission_om = dollars 12000000;
+  lse_expenses = dollars 1000000;
+  account_565 = dollars 1000000;
+  general_depreciation = dollars 3000000;
+  other_taxes = dollars 12000000;
+  income_taxes = dollars 18000000;
+  return_on_rate_base = dollars 42000000;
+}
 
 -- the example that Attachment CC prints
 abbrev pub cc_figures : Figures
-cc_figures =
-    sheet_of
-    ((GrossPlant, 1865000000)
-    ∷ (NetPlant, 1305500000)
-    ∷ (TotalOm, 52989310)
-    ∷ (GeneralDepreciation, 3247214)
-    ∷ (OtherTaxes, 12975857)
-    ∷ (IncomeTaxes, 47594197)
-    ∷ (ReturnOnRateBase, 100209722)
-    ∷ [])
+cc_figures = record {
+  gross_plant = dollars 1865000000;
+  accumulated_depreciation = None;
+  net_plant = dollars 1305500000;
+  total_om = dollars 52989310;
+  transmission_om = None;
+  lse_expenses = None;
+  account_565 = None;
+  general_depreciation = dollars 3247214;
+  other_taxes = dollars 12975857;
+  income_taxes = dollars 47594197;
+  return_on_rate_base = dollars 100209722;
+}
 
 -- gross plant, accumulated depreciation and depreciation expense
 abbrev pub project : ℕ → ℕ → ℕ → Project

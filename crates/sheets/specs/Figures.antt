@@ -1,11 +1,33 @@
 -- The figures of page 1 as entered.
-use Rattle.std.specs.Prelude.{ℕ, ◌≤◌, Bool, ℤ, pos, negsuc, Some, None, Option, slice_index_or, slice_set, replicate, unsigned_abs}
+use Rattle.std.specs.Prelude.{ℕ, ◌≤◌, Bool, cond, ℤ, pos, negsuc, Some, None, Option, ◌==◌, unsigned_abs}
 use Rattle.sheets.specs.declared.figures.Figure.{Figure}
 use Rattle.sheets.specs.declared.figures.Figure.TheVariants.{GrossPlant, AccumulatedDepreciation, NetPlant, TotalOm, TransmissionOm, LseExpenses, Account565, GeneralDepreciation, OtherTaxes, IncomeTaxes, ReturnOnRateBase}
 use Rattle.sheets.specs.declared.figures.Figures.{Figures}
 use Rattle.sheets.specs.Outcomes.{within}
 
--- the place of a figure in the list of amounts
+-- the amount entered for a figure, if any
+abbrev pub figure_in : Figure → Figures → Option ℤ
+figure_in GrossPlant f = f.gross_plant
+figure_in AccumulatedDepreciation f = f.accumulated_depreciation
+figure_in NetPlant f = f.net_plant
+figure_in TotalOm f = f.total_om
+figure_in TransmissionOm f = f.transmission_om
+figure_in LseExpenses f = f.lse_expenses
+figure_in Account565 f = f.account_565
+figure_in GeneralDepreciation f = f.general_depreciation
+figure_in OtherTaxes f = f.other_taxes
+figure_in IncomeTaxes f = f.income_taxes
+figure_in ReturnOnRateBase f = f.return_on_rate_base
+
+abbrev pub or_zero : Option ℤ → ℤ
+or_zero (Some x) = x
+or_zero None = pos 0
+
+-- a figure that was not entered counts as 0
+abbrev pub amount_of : Figure → Figures → ℤ
+amount_of k f = or_zero (figure_in k f)
+
+-- the place of a figure in the record
 abbrev pub place : Figure → ℕ
 place GrossPlant = 0
 place AccumulatedDepreciation = 1
@@ -19,25 +41,37 @@ place OtherTaxes = 8
 place IncomeTaxes = 9
 place ReturnOnRateBase = 10
 
--- the amount entered for a figure, if any
-abbrev pub figure_in : Figure → Figures → Option ℤ
-figure_in k f = slice_index_or f.amounts (place k) None
-
-abbrev pub or_zero : Option ℤ → ℤ
-or_zero (Some x) = x
-or_zero None = pos 0
-
--- a figure that was not entered counts as 0
-abbrev pub amount_of : Figure → Figures → ℤ
-amount_of k f = or_zero (figure_in k f)
-
 -- f, with x for the figure k; every other figure stays
 abbrev pub with_figure : Figure → Option ℤ → Figures → Figures
-with_figure k x f = record { amounts = slice_set f.amounts (place k) x }
+with_figure k x f = record {
+  gross_plant = cond (place k == 0) x f.gross_plant;
+  accumulated_depreciation = cond (place k == 1) x f.accumulated_depreciation;
+  net_plant = cond (place k == 2) x f.net_plant;
+  total_om = cond (place k == 3) x f.total_om;
+  transmission_om = cond (place k == 4) x f.transmission_om;
+  lse_expenses = cond (place k == 5) x f.lse_expenses;
+  account_565 = cond (place k == 6) x f.account_565;
+  general_depreciation = cond (place k == 7) x f.general_depreciation;
+  other_taxes = cond (place k == 8) x f.other_taxes;
+  income_taxes = cond (place k == 9) x f.income_taxes;
+  return_on_rate_base = cond (place k == 10) x f.return_on_rate_base;
+}
 
 -- no figure entered
 abbrev pub blank : Figures
-blank = record { amounts = replicate 11 None }
+blank = record {
+  gross_plant = None;
+  accumulated_depreciation = None;
+  net_plant = None;
+  total_om = None;
+  transmission_om = None;
+  lse_expenses = None;
+  account_565 = None;
+  general_depreciation = None;
+  other_taxes = None;
+  income_taxes = None;
+  return_on_rate_base = None;
+}
 
 -- income taxes alone may be negative
 abbrev pub lowest : Figure → ℤ

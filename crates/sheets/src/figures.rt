@@ -1,4 +1,4 @@
-ghost use Rattle.std.specs.Prelude.{◌≡◌, ◌^◌, ◌≤◌, Some, unsigned_abs};
+ghost use Rattle.std.specs.Prelude.{◌≡◌, ◌^◌, ◌≤◌, unsigned_abs};
 ghost use Rattle.sheets.specs.Figures.{amount_fits, amount_of, blank, figure_in, with_figure};
 
 /// A figure of page 1, by what it means. Each template has some of them as its lines.
@@ -35,9 +35,21 @@ impl Figure {
 }
 
 /// The figures entered so far, in dollars. One record serves every template.
+// By fields: of an array the contracts of a sheet do not show the length, and so not that a figure
+// reads as it was entered.
 #[derive(Clone, Copy)]
 pub struct Figures {
-    amounts: [Option<i64>; 11],
+    pub(crate) gross_plant: Option<i64>,
+    pub(crate) accumulated_depreciation: Option<i64>,
+    pub(crate) net_plant: Option<i64>,
+    pub(crate) total_om: Option<i64>,
+    pub(crate) transmission_om: Option<i64>,
+    pub(crate) lse_expenses: Option<i64>,
+    pub(crate) account_565: Option<i64>,
+    pub(crate) general_depreciation: Option<i64>,
+    pub(crate) other_taxes: Option<i64>,
+    pub(crate) income_taxes: Option<i64>,
+    pub(crate) return_on_rate_base: Option<i64>,
 }
 
 impl Figures {
@@ -46,7 +58,17 @@ impl Figures {
         ensures { result ≡ blank }
     {
         Figures {
-            amounts: [None; 11],
+            gross_plant: None,
+            accumulated_depreciation: None,
+            net_plant: None,
+            total_om: None,
+            transmission_om: None,
+            lse_expenses: None,
+            account_565: None,
+            general_depreciation: None,
+            other_taxes: None,
+            income_taxes: None,
+            return_on_rate_base: None,
         }
     }
 
@@ -54,14 +76,38 @@ impl Figures {
     pub(crate) fn get(&self, figure: Figure) -> Option<i64>
         ensures { result ≡ figure_in figure self.now }
     {
-        self.amounts[figure as usize]
+        match figure {
+            Figure::GrossPlant => self.gross_plant,
+            Figure::AccumulatedDepreciation => self.accumulated_depreciation,
+            Figure::NetPlant => self.net_plant,
+            Figure::TotalOm => self.total_om,
+            Figure::TransmissionOm => self.transmission_om,
+            Figure::LseExpenses => self.lse_expenses,
+            Figure::Account565 => self.account_565,
+            Figure::GeneralDepreciation => self.general_depreciation,
+            Figure::OtherTaxes => self.other_taxes,
+            Figure::IncomeTaxes => self.income_taxes,
+            Figure::ReturnOnRateBase => self.return_on_rate_base,
+        }
     }
 
     /// Replaces one figure; the others stay.
-    pub(crate) fn put(&mut self, replaced: Figure, amount: i64)
-        ensures { self.new ≡ with_figure replaced (Some amount) self.old }
+    pub(crate) fn put(&mut self, figure: Figure, amount: Option<i64>)
+        ensures { self.new ≡ with_figure figure amount self.old }
     {
-        self.amounts[replaced as usize] = Some(amount);
+        match figure {
+            Figure::GrossPlant => self.gross_plant = amount,
+            Figure::AccumulatedDepreciation => self.accumulated_depreciation = amount,
+            Figure::NetPlant => self.net_plant = amount,
+            Figure::TotalOm => self.total_om = amount,
+            Figure::TransmissionOm => self.transmission_om = amount,
+            Figure::LseExpenses => self.lse_expenses = amount,
+            Figure::Account565 => self.account_565 = amount,
+            Figure::GeneralDepreciation => self.general_depreciation = amount,
+            Figure::OtherTaxes => self.other_taxes = amount,
+            Figure::IncomeTaxes => self.income_taxes = amount,
+            Figure::ReturnOnRateBase => self.return_on_rate_base = amount,
+        }
     }
 
     /// The amount of a figure; one that was not entered counts as 0.

@@ -71,7 +71,7 @@ impl<T: Template> OpenSheet<T> {
         if !figure.takes(amount) {
             return Err(Refusal::AmountOutOfRange);
         }
-        self.figures.put(figure, amount);
+        self.figures.put(figure, Some(amount));
         Ok(())
     }
 
@@ -85,7 +85,8 @@ impl<T: Template> OpenSheet<T> {
 
     /// A figure as entered.
     pub fn figure(&self, figure: Figure) -> Option<i64>
-        ensures { result ≡ figure_in figure self.now }
+        ensures value { result ≡ figure_in figure self.now }
+        ensures in_range { InRange self.now }
     {
         self.figures.get(figure)
     }
@@ -93,6 +94,7 @@ impl<T: Template> OpenSheet<T> {
     /// Works out page 1 and uses the sheet up; a refusal gives the sheet back.
     pub fn finish(self) -> Result<WorkedSheet<T>, (Refusal, OpenSheet<T>)>
         ensures outcome { result ≡ finish_outcome hundredths T.rules self }
+        ensures fits { IfOk result (λ w. factors_fit hundredths w.factors ≡ true) }
         ensures follows_the_tariff { IfOk result (λ w. PageOneFollows hundredths (T.rules.elements_of self) w.factors) }
         ensures printed_sums_hold { T.sums self (T.rules.elements_of self) }
     {

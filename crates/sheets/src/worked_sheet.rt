@@ -147,7 +147,8 @@ impl<T: Template> WorkedSheet<T> {
 
     /// The factors of page 1.
     pub fn factors(&self) -> Factors
-        ensures { result ≡ self.now.factors }
+        ensures value { result ≡ self.now.factors }
+        ensures fits { factors_fit hundredths result ≡ true }
     {
         self.factors
     }
