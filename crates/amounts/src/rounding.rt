@@ -25,6 +25,7 @@ pub fn rounded(n: i64, d: NonZeroU64) -> i64
 }
 
 /// The quotient whose remainder is not negative.
+// On its own: the cast below is then all that is left to prove of rounding down.
 fn quotient_below(n: i64, d: NonZeroU64) -> i128
     ensures { result ≡ int_div_euclid n (pos (non_zero_u64_get d)) }
 {

@@ -1,5 +1,6 @@
-ghost use Rattle.std.specs.Prelude.{◌≤◌, length, pos, ◌≤ℤ◌, unsigned_abs};
+ghost use Rattle.std.specs.Prelude.{◌≤◌, length, pos, ◌≤ℤ◌};
 ghost use Rattle.rows.specs.Rows.{rows_in};
+ghost use Rattle.sheets.specs.Pricing.{ColumnsInRange};
 
 use rows::Rows;
 use sheets::{Columns, Project};
@@ -14,13 +15,11 @@ pub struct PricedProject {
     pub project: Project,
     pub columns: Columns,
     ghost number_in_range: { (pos 1 ≤ℤ number) × (number ≤ℤ pos 99999999) },
-    ghost charges_in_range: { (unsigned_abs columns.annual_expense_charge ≤ 120000000000) × (unsigned_abs columns.annual_return_charge ≤ 100000000000) },
-    ghost depreciation_in_range: { (pos 0 ≤ℤ columns.depreciation_expense) × (columns.depreciation_expense ≤ℤ pos 10000000000) },
-    ghost requirement_in_range: { (pos 0 ≤ℤ columns.annual_revenue_requirement) × (columns.annual_revenue_requirement ≤ℤ pos 100000000) },
+    ghost columns_in_range: { ColumnsInRange columns },
 }
 
 /// The projects of a filing in the order of its lines: 1 to 64 of them.
-// no model: its view would forget the places not in use, and the type is to stay Copy
+// No model: its view would forget the places not in use, and a type is then not `Copy`, as callers may use this one.
 #[derive(Clone, Copy)]
 pub struct PricedProjects {
     rows: Rows<PricedProject, MOST>,
@@ -36,7 +35,7 @@ impl PricedProjects {
         ensures { rows_of result ≡ row_of first ∷ [] }
     {
         let mut rows = Rows::new(first);
-        let _ = rows.push(first);
+        rows.push(first).unwrap();
         PricedProjects { rows }
     }
 
@@ -52,7 +51,7 @@ impl PricedProjects {
         requires { length (rows_of self.old) < 64 }
         ensures { rows_of self.new ≡ rows_of self.old ++ (row_of project ∷ []) }
     {
-        let _ = self.rows.push(project);
+        self.rows.push(project).unwrap();
     }
 
     /// The projects.

@@ -28,7 +28,7 @@ impl Record<'_> {
         ensures { result ≡ at self.now.line given }
     {
         let line = self.line;
-        given.map_err(|refusal| LineRefusal { line, refusal })
+        given.map_err(|refusal| refusal.at_line(line))
     }
 }
 

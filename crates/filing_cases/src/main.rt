@@ -27,6 +27,7 @@ impl<'a> Iterator for Cases<'a> {
     fn next(&mut self) -> Option<Case<'a>> {
         let table = self.0;
         let space = table.iter().position(|byte| *byte == b' ')?;
+        // Digit by digit, not by `parse`: bytes that are no digits are passed over.
         let length = table[..space]
             .iter()
             .filter_map(|byte| char::from(*byte).to_digit(10))

@@ -8,7 +8,7 @@ use crate::rate_list::{RateList, counted_rate};
 /// The flat list: one given rate in every month.
 #[derive(Clone, Copy)]
 pub struct FlatList {
-    // as given: the limit is asked for at each look-up, as for a run's rates
+    // as given: a rate limited by `new` would need a ghost field for `bounded`, and is no plainer
     rate: u32,
 }
 

@@ -33,7 +33,7 @@ impl RateList for NamedList {
     ] };
 
     fn rate(&self, month: u32) -> Option<u32> {
-        // One arm for each form of a line: a `dyn` list would need the heap.
+        // One arm for each form of a line: picking a `&dyn RateList` has the same four arms.
         match self {
             NamedList::Flat(list) => list.rate(month),
             NamedList::Quarter(list) => list.rate(month),

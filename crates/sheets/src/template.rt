@@ -56,6 +56,7 @@ pub trait Template {
     }
 
     /// The figure that a line holds.
+    // No `From`: this clause is what ties it to the template's rules.
     fn figure(line: Self::Line) -> Figure
         ensures { result ≡ rules.figure_of line };
 

@@ -43,6 +43,7 @@ fn read_named(line: Record, reader: FilingReader) -> Result<Filing, LineRefusal>
 }
 
 /// Reads a filing from its T line on.
+// On its own: with both clauses of `read_pages` in one function the second did not close.
 fn read_whole(file: &[u8]) -> Result<Filing, LineRefusal>
     ensures { seen view result ≡ filed file.now }
 {
