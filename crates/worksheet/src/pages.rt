@@ -148,58 +148,66 @@ fn column_sum(summed: Summed, rows: &[Row]) -> i128 {
         .fold(0, i128::saturating_add)
 }
 
-/// The heading of a band whose first column has this number.
-fn print_heading(rt: &impl Print, first_number: usize, columns: &[Column]) -> io::Result<()> {
-    print!(rt; "{:>14}", "(2)")?;
-    for number in first_number..first_number.saturating_add(columns.len()) {
-        print!(rt; "{:>16}", ColumnNumber(number))?;
-    }
-    println!(rt)?;
-    let starts = ["          MTEP", "       Project", "Line    Number"];
-    for (part, start) in starts.iter().enumerate() {
-        print!(rt; "{start}")?;
-        for column in columns {
-            print!(rt; "{:>16}", column.heading[part])?;
+/// Columns of page 2 that stand side by side, with a row for each project.
+#[derive(Clone, Copy)]
+struct Band<'a> {
+    /// The number of the first column.
+    first_number: usize,
+    columns: &'a [Column],
+    rows: &'a [Row],
+    factors: &'a Factors,
+}
+
+impl Band<'_> {
+    fn print_heading(&self, rt: &impl Print) -> io::Result<()> {
+        let after_last = self.first_number.saturating_add(self.columns.len());
+        print!(rt; "{:>14}", "(2)")?;
+        for number in self.first_number..after_last {
+            print!(rt; "{:>16}", ColumnNumber(number))?;
         }
         println!(rt)?;
-    }
-    Ok(())
-}
-
-fn print_row(rt: &impl Print, columns: &[Column], row: &Row, factors: &Factors) -> io::Result<()> {
-    print!(rt; "{:>10}", row.number)?;
-    for column in columns {
-        print!(rt; "{:>16}", cell_value(column.cell, row, factors))?;
-    }
-    println!(rt)
-}
-
-/// The sums of a band; columns of plant and factors have none.
-fn print_sums(rt: &impl Print, columns: &[Column], rows: &[Row]) -> io::Result<()> {
-    print!(rt; "{:>14}", "Sum")?;
-    for column in columns {
-        match column.cell {
-            Cell::Summed(summed) => print!(rt; "{:>16}", Thousands(column_sum(summed, rows)))?,
-            _ => print!(rt; "{:>16}", "")?,
+        let starts = ["          MTEP", "       Project", "Line    Number"];
+        for (part, start) in starts.iter().enumerate() {
+            print!(rt; "{start}")?;
+            for column in self.columns {
+                print!(rt; "{:>16}", column.heading[part])?;
+            }
+            println!(rt)?;
         }
+        Ok(())
     }
-    println!(rt)
-}
 
-fn print_band(
-    rt: &impl Print,
-    first_number: usize,
-    columns: &[Column],
-    rows: &[Row],
-    factors: &Factors,
-) -> io::Result<()> {
-    println!(rt)?;
-    print_heading(rt, first_number, columns)?;
-    for (place, row) in rows.iter().enumerate() {
-        print!(rt; "1{:<3}", SubRow(place))?;
-        print_row(rt, columns, row, factors)?;
+    fn print_row(&self, rt: &impl Print, row: &Row) -> io::Result<()> {
+        print!(rt; "{:>10}", row.number)?;
+        for column in self.columns {
+            print!(rt; "{:>16}", cell_value(column.cell, row, self.factors))?;
+        }
+        println!(rt)
     }
-    print_sums(rt, columns, rows)
+
+    /// The sums of the columns; columns of plant and factors have none.
+    fn print_sums(&self, rt: &impl Print) -> io::Result<()> {
+        print!(rt; "{:>14}", "Sum")?;
+        for column in self.columns {
+            match column.cell {
+                Cell::Summed(summed) => {
+                    print!(rt; "{:>16}", Thousands(column_sum(summed, self.rows)))?;
+                }
+                _ => print!(rt; "{:>16}", "")?,
+            }
+        }
+        println!(rt)
+    }
+
+    fn print(&self, rt: &impl Print) -> io::Result<()> {
+        println!(rt)?;
+        self.print_heading(rt)?;
+        for (place, row) in self.rows.iter().enumerate() {
+            print!(rt; "1{:<3}", SubRow(place))?;
+            self.print_row(rt, row)?;
+        }
+        self.print_sums(rt)
+    }
 }
 
 /// Page 2 with a row for each project.
@@ -210,14 +218,23 @@ fn print_page_two<T: Printed>(
 ) -> io::Result<()> {
     let layout = T::layout();
     let factors = sheet.factors();
-    let expense_columns = layout.expense_columns;
+    let expense_band = Band {
+        first_number: 3,
+        columns: layout.expense_columns,
+        rows,
+        factors: &factors,
+    };
+    let return_band = Band {
+        first_number: expense_band.columns.len().saturating_add(3),
+        columns: layout.return_columns,
+        ..expense_band
+    };
     println!(rt;
         "Attachment {}, page 2 of 2: {}",
         layout.attachment, layout.title
     )?;
-    print_band(rt, 3, expense_columns, rows, &factors)?;
-    let second_number = expense_columns.len().saturating_add(3);
-    print_band(rt, second_number, layout.return_columns, rows, &factors)?;
+    expense_band.print(rt)?;
+    return_band.print(rt)?;
     println!(rt)?;
     let total = Thousands(column_sum(Summed::Requirement, rows));
     println!(rt; "{:<4}  {:<54}{total:>18}", "2", layout.total_name)?;
