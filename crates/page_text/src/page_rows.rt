@@ -41,7 +41,8 @@ impl PageRows {
 
     /// Adds a row after the others; where they are 64, they stay as they are.
     pub fn push(&mut self, row: PageRow) -> Result<(), Full>
-        ensures { Gives (pushed self.old (row_of row)) result self.new }
+        ensures outcome { Gives (pushed self.old (row_of row)) result self.new }
+        ensures few { length self.new ≤ 64 }
     {
         self.rows.push(row)
     }
@@ -56,7 +57,8 @@ impl PageRows {
 
     /// How many rows there are.
     pub fn len(&self) -> usize
-        ensures { result ≡ length self.now }
+        ensures rows { result ≡ length self.now }
+        ensures few { result ≤ 64 }
     {
         self.as_slice().len()
     }
