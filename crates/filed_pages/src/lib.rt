@@ -8,6 +8,7 @@ ghost use Rattle.page_text.specs.Outcomes.{Gives, printed};
 ghost use Rattle.page_text.specs.Rows.{row_of as printed_row};
 
 use filing::{PricedProject, read_filing};
+pub use page_text::LONGEST_TEXT;
 use page_text::{PageRow, PageRows, write_refusal, write_rows};
 
 /// The line of a priced project. No `From`: neither type is of this crate.
@@ -37,7 +38,7 @@ fn page_rows(projects: &[PricedProject]) -> PageRows
 
 /// Writes the text of a filing at the start of the run and answers its length: a line for each
 /// project and the line of the sums, or the line of a refusal. The bytes after it stay as found.
-pub fn write_pages(file: &[u8], run: &mut [u8; 4485]) -> usize
+pub fn write_pages(file: &[u8], run: &mut [u8; LONGEST_TEXT]) -> usize
     ensures outcome { Gives (printed (filing_text file.now) run.old) result run.new }
     ensures within_the_run { result ≤ 4485 }
 {

@@ -3,7 +3,7 @@
 ghost use Rattle.std.specs.Prelude.{length};
 ghost use Rattle.std.specs.Iterator.{at_most};
 
-use filed_pages::write_pages;
+use filed_pages::{LONGEST_TEXT, write_pages};
 use std::io;
 use std::io::Read;
 
@@ -49,7 +49,7 @@ fn main(rt: HostRuntime) -> io::Result<()> {
     let mut table = Vec::new(rt.alloc());
     rt.stdin().read_to_end(&mut table)?;
     for Case { name, file } in Cases(&table) {
-        let mut run = [b'?'; 4485];
+        let mut run = [b'?'; LONGEST_TEXT];
         let length = write_pages(file, &mut run);
         rt.write_all(name)?;
         rt.write_all(b"\n")?;

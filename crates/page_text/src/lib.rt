@@ -11,7 +11,7 @@ mod row;
 #[cfg(test)]
 mod tests;
 
-pub use page::write_rows;
+pub use page::{LONGEST_TEXT, write_rows};
 pub use page_rows::PageRows;
 pub use refusal::write_refusal;
 pub use row::PageRow;

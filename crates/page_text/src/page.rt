@@ -9,6 +9,9 @@ use crate::line::{row_fields, sums_fields, write_line};
 use crate::page_rows::PageRows;
 use crate::row::PageRow;
 
+/// The bytes of the longest text: 64 rows and the line of the sums, of 69 bytes each.
+pub const LONGEST_TEXT: usize = 4_485;
+
 /// Writes the line of each row at the start of the bytes; answers how long they are.
 fn write_lines(bytes: &mut [u8], rows: &[PageRow]) -> usize
     requires { 69 * length rows.now ≤ length bytes.old }
@@ -24,7 +27,8 @@ fn write_lines(bytes: &mut [u8], rows: &[PageRow]) -> usize
 }
 
 /// Writes the text of the pages at the start of the run; answers how long it is.
-pub fn write_rows(run: &mut [u8; 4485], rows: &PageRows) -> usize
+// It answers a length: the run is the caller's fixed memory.
+pub fn write_rows(run: &mut [u8; LONGEST_TEXT], rows: &PageRows) -> usize
     ensures outcome { Gives (printed (page_text rows.now) run.old) result run.new }
     ensures reads_back { PageReadsBack rows.now run.new }
     ensures whole_lines { result ≡ 69 * (length rows.now + 1) }

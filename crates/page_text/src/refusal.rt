@@ -5,6 +5,7 @@ ghost use Rattle.page_text.specs.ReadBack.{RefusalReadsBack};
 
 use crate::field::Field;
 use crate::line::write_line;
+use crate::page::LONGEST_TEXT;
 
 /// The fields after the letter: the line's number in 11 columns, the refusal's in 12.
 fn refusal_fields(line: u16, number: u8) -> [Field; 2]
@@ -24,7 +25,7 @@ fn refusal_fields(line: u16, number: u8) -> [Field; 2]
 
 /// Writes the line of a refusal at the start of the run; answers how long it is.
 // By its number: the line holds numbers, and any library's refusal can be printed.
-pub fn write_refusal(run: &mut [u8; 4485], line: u16, number: u8) -> usize
+pub fn write_refusal(run: &mut [u8; LONGEST_TEXT], line: u16, number: u8) -> usize
     ensures outcome { Gives (printed (refusal_text line number) run.old) result run.new }
     ensures reads_back { RefusalReadsBack line number run.new }
     ensures one_line { result ≡ 25 }

@@ -1,4 +1,4 @@
-use crate::{Full, PageRow, PageRows, write_refusal, write_rows};
+use crate::{Full, LONGEST_TEXT, PageRow, PageRows, write_refusal, write_rows};
 use std::process::Abort;
 
 /// A priced project of Attachment MM.
@@ -20,7 +20,7 @@ const WIDEST: PageRow = PageRow {
 };
 
 /// The run begins with the text, and its other bytes are as found.
-fn holds(rt: &impl Abort, run: &[u8; 4485], text: &[u8]) {
+fn holds(rt: &impl Abort, run: &[u8; LONGEST_TEXT], text: &[u8]) {
     assert!(rt; run.starts_with(text));
     for byte in run.iter().skip(text.len()) {
         assert!(rt; *byte == b'?');
@@ -31,7 +31,7 @@ fn holds(rt: &impl Abort, run: &[u8; 4485], text: &[u8]) {
 fn one_row_and_its_sums(rt: HostRuntime) {
     let mut rows = PageRows::new();
     assert_eq!(rt; rows.push(EXAMPLE), Ok(()));
-    let mut run = [b'?'; 4485];
+    let mut run = [b'?'; LONGEST_TEXT];
     assert_eq!(rt; write_rows(&mut run, &rows), 138);
     holds(
         &rt,
@@ -44,7 +44,7 @@ fn one_row_and_its_sums(rt: HostRuntime) {
 
 #[test]
 fn no_rows(rt: HostRuntime) {
-    let mut run = [b'?'; 4485];
+    let mut run = [b'?'; LONGEST_TEXT];
     assert_eq!(rt; write_rows(&mut run, &PageRows::new()), 69);
     holds(
         &rt,
@@ -61,7 +61,7 @@ fn sixty_four_rows_are_full(rt: HostRuntime) {
     }
     assert_eq!(rt; rows.push(EXAMPLE), Err(Full));
     assert_eq!(rt; rows.len(), 64);
-    let mut run = [b'?'; 4485];
+    let mut run = [b'?'; LONGEST_TEXT];
     assert_eq!(rt; write_rows(&mut run, &rows), 4485);
     assert!(rt;
         run.ends_with(
@@ -74,7 +74,7 @@ fn sixty_four_rows_are_full(rt: HostRuntime) {
 
 #[test]
 fn a_refusal(rt: HostRuntime) {
-    let mut run = [b'?'; 4485];
+    let mut run = [b'?'; LONGEST_TEXT];
     assert_eq!(rt; write_refusal(&mut run, 12, 31), 25);
     holds(&rt, &run, b"R         12          31\n");
     assert_eq!(rt; write_refusal(&mut run, u16::MAX, u8::MAX), 25);
