@@ -104,6 +104,7 @@ fn factors_fit(factors: &Factors) -> bool
 }
 
 /// Page 1 of cost elements: the factors, or the first question that is answered no.
+// Line 3d's answer comes as a `bool`: it is the template's, and is asked between two questions of every template.
 pub(crate) fn page_one(elements: Elements, adjusted_om_fits: bool) -> Result<Factors, Refusal>
     requires { SmallElements elements }
     ensures value { result ≡ page_one hundredths elements adjusted_om_fits }
