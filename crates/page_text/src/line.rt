@@ -1,7 +1,8 @@
 ghost use Rattle.std.specs.Prelude.{◌≡◌, ◌+◌, ◌≤◌, ◌++◌, map, length, unsigned_abs};
 ghost use Rattle.page_text.specs.Fields.{fields_text, fields_width, newline};
-ghost use Rattle.page_text.specs.Lines.{in_columns, line_fields, sums_of};
+ghost use Rattle.page_text.specs.Lines.{in_columns, line_fields, sum_of, sums_of};
 ghost use Rattle.page_text.specs.Outcomes.{Gives, printed};
+ghost use Rattle.page_text.specs.ReadBack.{Amount, amount_in};
 ghost use Rattle.page_text.specs.Rows.{row_of};
 
 use crate::field::Field;
@@ -48,6 +49,17 @@ pub(crate) fn row_fields(row: &PageRow) -> [Field; 5]
     ]
 }
 
+/// The sum of an amount of the rows, in its columns.
+fn sum_field<F: Fn(&PageRow) -> i64>(rows: &[PageRow], amount_of: F) -> Field
+    ghost a: { Amount }
+    requires few { length rows.now ≤ 64 }
+    requires callable { F.IsAlwaysCallable amount_of }
+    requires reads { (row : _) (n : _) → F.post amount_of row n → n ≡ amount_in a (row_of row.now) }
+    ensures { result ≡ in_columns 14 (sum_of (amount_in a) (map row_of rows.now)) }
+{
+    amount(rows.iter().map(|row| amount_of(row)).sum())
+}
+
 /// The fields of the line of the sums: project number 0 and the sum of each column.
 pub(crate) fn sums_fields(rows: &[PageRow]) -> [Field; 5]
     requires { length rows.now ≤ 64 }
@@ -55,10 +67,10 @@ pub(crate) fn sums_fields(rows: &[PageRow]) -> [Field; 5]
 {
     [
         project(0),
-        amount(rows.iter().map(|row| row.annual_expense_charge).sum()),
-        amount(rows.iter().map(|row| row.annual_return_charge).sum()),
-        amount(rows.iter().map(|row| row.depreciation_expense).sum()),
-        amount(rows.iter().map(|row| row.annual_revenue_requirement).sum()),
+        sum_field(rows, |row| row.annual_expense_charge),
+        sum_field(rows, |row| row.annual_return_charge),
+        sum_field(rows, |row| row.depreciation_expense),
+        sum_field(rows, |row| row.annual_revenue_requirement),
     ]
 }
 
