@@ -7,8 +7,8 @@ use std::marker::Model;
 /// A number in its columns, with room for its digits and a minus sign.
 #[derive(Drop)]
 pub(crate) struct Field {
-    pub(crate) columns: usize,
-    pub(crate) number: i64,
+    columns: usize,
+    number: i64,
 }
 
 impl Model for Field {
@@ -22,7 +22,20 @@ impl Model for Field {
 impl Field {
     ghost use Rattle.std.specs.Prelude.{◌≡◌, length};
     ghost use Rattle.page_text.specs.Fields.{field_text};
+    ghost use Rattle.page_text.specs.Lines.{in_columns};
     ghost use Rattle.page_text.specs.Outcomes.{Gives, printed};
+
+    /// A number in its columns.
+    pub(crate) fn in_columns<const COLUMNS: usize>(number: i64) -> Self
+        requires wide { 2 ≤ COLUMNS }
+        requires fits { unsigned_abs number < 10 ^ (COLUMNS - 1) }
+        ensures { result ≡ in_columns COLUMNS number }
+    {
+        Field {
+            columns: COLUMNS,
+            number,
+        }
+    }
 
     /// Writes the field at the start of the bytes; answers how long it is.
     pub(crate) fn write(&self, bytes: &mut [u8]) -> usize

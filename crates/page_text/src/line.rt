@@ -1,4 +1,4 @@
-ghost use Rattle.std.specs.Prelude.{◌≡◌, ◌+◌, ◌≤◌, ◌++◌, map, length, unsigned_abs};
+ghost use Rattle.std.specs.Prelude.{◌≡◌, ◌+◌, ◌≤◌, ◌++◌, map, length};
 ghost use Rattle.page_text.specs.Fields.{fields_text, fields_width, newline};
 ghost use Rattle.page_text.specs.Lines.{in_columns, line_fields, sum_of, sums_of};
 ghost use Rattle.page_text.specs.Outcomes.{Gives, printed};
@@ -14,38 +14,16 @@ const PROJECT_COLUMNS: usize = 12;
 /// How wide each amount's columns are.
 const AMOUNT_COLUMNS: usize = 14;
 
-/// A project number in its columns.
-fn project(number: i64) -> Field
-    requires { unsigned_abs number ≤ 99999999 }
-    ensures { result ≡ in_columns 12 number }
-{
-    Field {
-        columns: PROJECT_COLUMNS,
-        number,
-    }
-}
-
-/// An amount in its columns: that of a row, or the sum over up to 64 rows.
-fn amount(number: i64) -> Field
-    requires { unsigned_abs number ≤ 7680000000000 }
-    ensures { result ≡ in_columns 14 number }
-{
-    Field {
-        columns: AMOUNT_COLUMNS,
-        number,
-    }
-}
-
 /// The fields of a row's line, from the left.
 pub(crate) fn row_fields(row: &PageRow) -> [Field; 5]
     ensures { result ≡ line_fields (row_of row.now) }
 {
     [
-        project(row.project_number),
-        amount(row.annual_expense_charge),
-        amount(row.annual_return_charge),
-        amount(row.depreciation_expense),
-        amount(row.annual_revenue_requirement),
+        Field::in_columns::<PROJECT_COLUMNS>(row.project_number),
+        Field::in_columns::<AMOUNT_COLUMNS>(row.annual_expense_charge),
+        Field::in_columns::<AMOUNT_COLUMNS>(row.annual_return_charge),
+        Field::in_columns::<AMOUNT_COLUMNS>(row.depreciation_expense),
+        Field::in_columns::<AMOUNT_COLUMNS>(row.annual_revenue_requirement),
     ]
 }
 
@@ -57,7 +35,7 @@ fn sum_field<F: Fn(&PageRow) -> i64>(rows: &[PageRow], amount_of: F) -> Field
     requires reads { (row : _) (n : _) → F.post amount_of row n → n ≡ amount_in a (row_of row.now) }
     ensures { result ≡ in_columns 14 (sum_of (amount_in a) (map row_of rows.now)) }
 {
-    amount(rows.iter().map(|row| amount_of(row)).sum())
+    Field::in_columns::<AMOUNT_COLUMNS>(rows.iter().map(|row| amount_of(row)).sum())
 }
 
 /// The fields of the line of the sums: project number 0 and the sum of each column.
@@ -66,7 +44,7 @@ pub(crate) fn sums_fields(rows: &[PageRow]) -> [Field; 5]
     ensures { result ≡ line_fields (sums_of (map row_of rows.now)) }
 {
     [
-        project(0),
+        Field::in_columns::<PROJECT_COLUMNS>(0),
         sum_field(rows, |row| row.annual_expense_charge),
         sum_field(rows, |row| row.annual_return_charge),
         sum_field(rows, |row| row.depreciation_expense),

@@ -12,14 +12,8 @@ fn refusal_fields(line: u16, number: u8) -> [Field; 2]
     ensures { result ≡ refusal_fields line number }
 {
     [
-        Field {
-            columns: 11,
-            number: i64::from(line),
-        },
-        Field {
-            columns: 12,
-            number: i64::from(number),
-        },
+        Field::in_columns::<11>(i64::from(line)),
+        Field::in_columns::<12>(i64::from(number)),
     ]
 }
 

@@ -16,8 +16,8 @@ sum-requires-clause-fits g c = λ p seen from.
 summed : (g : _) (c : After-sum g) → to_z w64 (of_z w64 c.sum.result) ≡ sum_of (amount_in g.a) (map row_of c.args.rows.now)
 summed g c = sum_passed g.a c.args.rows.now c.sum.result c.requires.1.0 c.sum.ensures.ran (YieldsList-from_map _ (column g.a) (YieldsList-from_slice c.args.rows.now cc) c.map.ensures.closure (λ x r q k. search (rules, c.requires.1.1.1)))
 
-pub amount-requires : goal.amount-requires
-amount-requires g c = omega (arith, ap nat_abs (summed g (goal.at.amount-requires g c).After-sum), sum_small g.a c.args.rows.now c.requires.1.0)
+pub in_columns-requires-clause-fits : goal.in_columns-requires-clause-fits
+in_columns-requires-clause-fits g c = omega (arith, ap nat_abs (summed g (goal.at.in_columns-requires-clause-fits g c).After-sum), sum_small g.a c.args.rows.now c.requires.1.0)
 
 pub returns : goal.returns
-returns g c = c.amount.ensures ∙ ap (in_columns 14) (summed g (goal.at.returns g c).After-sum)
+returns g c = c.in_columns.ensures ∙ ap (in_columns 14) (summed g (goal.at.returns g c).After-sum)
