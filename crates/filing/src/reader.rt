@@ -86,6 +86,7 @@ impl<'a> FilingReader<'a> {
         let Some((bytes, rest)) = self.next_line() else {
             return Err(Refusal::NotALine.at_line(line));
         };
+        // Worked out and not counted: a record says where it stands in the file.
         let offset = 57 * usize::from(self.lines);
         self.rest = rest;
         self.lines = line;

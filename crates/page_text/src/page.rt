@@ -18,7 +18,7 @@ fn write_lines(bytes: &mut [u8], rows: &[PageRow]) -> usize
     ensures text { Gives (printed (flat_map line_text (map row_of rows.now)) bytes.old) result bytes.new }
     ensures columns { result ≡ 69 * length rows.now }
 {
-    // By offset: through `chunks_exact_mut` the proof did not close, which has the lengths alone.
+    // By offset: after a loop over `chunks_exact_mut` only the lengths are known, so the proof did not close.
     let mut at = 0;
     for row in rows {
         at += write_line(&mut bytes[at..], &row_fields(row));

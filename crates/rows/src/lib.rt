@@ -36,7 +36,7 @@ pub struct Rows<T, const MOST: usize> {
 
 impl<T: Copy, const MOST: usize> Copy for Rows<T, MOST> {}
 
-// By hand: over ghost fields no `Clone` is derived.
+// By hand: over ghost fields the derive is refused for a type that is `Copy` only where its rows are.
 impl<T: Copy, const MOST: usize> Clone for Rows<T, MOST> {
     ghost is_clone = { λ rows copy. copy ≡ rows };
 

@@ -167,6 +167,7 @@ impl Band<'_> {
         }
         println!(rt)?;
         let starts = ["          MTEP", "       Project", "Line    Number"];
+        // By part: each column has its three lines beside its cell.
         for (part, start) in starts.iter().enumerate() {
             print!(rt; "{start}")?;
             for column in self.columns {
