@@ -7,9 +7,6 @@ use Rattle.amounts.proofs.rounding.rounded_down.Goals as goal
 quotient_is : (c : goal.After-quotient_below) → c.quotient_below.result ≡ rounded_down c.args.n c.args.d.value
 quotient_is c = let fits = c.ranges.n in simp to_z-of_z at c.quotient_below.ensures ∙ down_by_division _ _
 
-pub overflow_cast-result : goal.overflow_cast-result
-overflow_cast-result c = omega (arith, ints, quotient_is c, down_fits w64 c.args.n c.args.d.value c.ranges.n)
-
 pub returns : goal.returns
 returns c =
     let n = c.args.n in
