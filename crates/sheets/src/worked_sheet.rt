@@ -1,10 +1,11 @@
 ghost use Rattle.std.specs.Prelude.{◌≡◌, ◌≤◌, true, pos, IfOk, unsigned_abs};
 ghost use Rattle.std.specs.NonZero.{non_zero_u64_get};
+ghost use Rattle.sheets.specs.Elements.{Small};
 ghost use Rattle.sheets.specs.Factors.{factors_fit, hundredths};
 ghost use Rattle.sheets.specs.Figures.{figure_in};
 ghost use Rattle.sheets.specs.Outcomes.{within};
 ghost use Rattle.sheets.specs.Tariff.{PageTwoFollows};
-ghost use Rattle.sheets.specs.Pricing.{ColumnsInRange, ProjectFits, charge as charge_of, columns_of, om_charge, priced, project_fits};
+ghost use Rattle.sheets.specs.Pricing.{ColumnsInRange, ProjectFits, charge, columns_of, om_charge, priced, project_fits};
 
 use crate::elements::Elements;
 use crate::factors::Factors;
@@ -64,13 +65,23 @@ fn requirement_fits(columns: &Columns) -> bool
     (0..=LARGEST_REQUIREMENT).contains(&columns.annual_revenue_requirement)
 }
 
-/// An amount times a factor, to the nearest dollar.
-fn charge(amount: i64, factor: i64) -> i64
-    requires { (unsigned_abs amount ≤ 10000000000) × (unsigned_abs factor ≤ 100000) }
-    ensures value { result ≡ charge_of hundredths amount factor }
-    ensures bound { unsigned_abs result ≤ 100000000000 }
-{
-    rounded(amount * factor, scale())
+/// A charge of page 2, so small that the charges of a project can be added.
+#[derive(Clone, Copy)]
+struct Charge {
+    dollars: i64,
+    ghost small: { Small dollars },
+}
+
+impl Charge {
+    /// An amount times a factor, to the nearest dollar.
+    fn of(amount: i64, factor: i64) -> Self
+        requires { (unsigned_abs amount ≤ 10000000000) × (unsigned_abs factor ≤ 100000) }
+        ensures { result.dollars ≡ charge hundredths amount factor }
+    {
+        Charge {
+            dollars: rounded(amount * factor, scale()),
+        }
+    }
 }
 
 impl<T: Template> WorkedSheet<T> {
@@ -87,24 +98,23 @@ impl<T: Template> WorkedSheet<T> {
     }
 
     /// What line 4, where the template has one, charges on its base.
-    fn om_charge(&self, base: i64) -> i64
+    fn om_charge(&self, base: i64) -> Charge
         requires { unsigned_abs base ≤ 10000000000 }
-        ensures value { result ≡ om_charge hundredths self.now.factors.transmission_om base }
-        ensures bound { unsigned_abs result ≤ 100000000000 }
+        ensures { result.dollars ≡ om_charge hundredths self.now.factors.transmission_om base }
     {
         let om_factor = self.factors.transmission_om;
-        om_factor.map_or(0, |factor| charge(base, factor))
+        om_factor.map_or(Charge { dollars: 0 }, |factor| Charge::of(base, factor))
     }
 
     fn columns(&self, project: &Project) -> Columns
         requires { ProjectFits project.now }
         ensures value { result ≡ columns_of hundredths self.now.factors T.rules.om_base project.now }
-        ensures bound { unsigned_abs result.annual_return_charge ≤ 100000000000 }
+        ensures bound { Small result.annual_return_charge }
     {
-        let om = self.om_charge(T::om_base(project));
-        let other = charge(project.gross_plant, self.factors.expense.total);
+        let om = self.om_charge(T::om_base(project)).dollars;
+        let other = Charge::of(project.gross_plant, self.factors.expense.total).dollars;
         let net_plant = project.gross_plant - project.accumulated_depreciation;
-        let returned = charge(net_plant, self.factors.returns.total);
+        let returned = Charge::of(net_plant, self.factors.returns.total).dollars;
         Columns {
             transmission_om_expense: om,
             other_expense: other,
