@@ -1,4 +1,4 @@
-ghost use Rattle.std.specs.Prelude.{◌≡◌, ◌+◌, ◌≤◌, ◌++◌, map, length};
+ghost use Rattle.std.specs.Prelude.{◌≡◌, ◌+◌, ◌≤◌, ◌++◌, length};
 ghost use Rattle.page_text.specs.Fields.{fields_text, fields_width, newline};
 ghost use Rattle.page_text.specs.Lines.{in_columns, line_fields, sum_of, sums_of};
 ghost use Rattle.page_text.specs.Outcomes.{Gives, printed};
@@ -6,6 +6,7 @@ ghost use Rattle.page_text.specs.ReadBack.{Amount, amount_in};
 ghost use Rattle.page_text.specs.Rows.{row_of};
 
 use crate::field::Field;
+use crate::page_rows::PageRows;
 use crate::row::PageRow;
 
 /// How wide the project number's columns are.
@@ -28,20 +29,18 @@ pub(crate) fn row_fields(row: &PageRow) -> [Field; 5]
 }
 
 /// The sum of an amount of the rows, in its columns.
-fn sum_field<F: Fn(&PageRow) -> i64>(rows: &[PageRow], amount_of: F) -> Field
+fn sum_field<F: Fn(&PageRow) -> i64>(rows: &PageRows, amount_of: F) -> Field
     ghost a: { Amount }
-    requires few { length rows.now ≤ 64 }
     requires callable { F.IsAlwaysCallable amount_of }
     requires reads { (row : _) (n : _) → F.post amount_of row n → n ≡ amount_in a (row_of row.now) }
-    ensures { result ≡ in_columns 14 (sum_of (amount_in a) (map row_of rows.now)) }
+    ensures { result ≡ in_columns 14 (sum_of (amount_in a) rows.now) }
 {
-    Field::in_columns::<AMOUNT_COLUMNS>(rows.iter().map(|row| amount_of(row)).sum())
+    Field::in_columns::<AMOUNT_COLUMNS>(rows.as_slice().iter().map(|row| amount_of(row)).sum())
 }
 
 /// The fields of the line of the sums: project number 0 and the sum of each column.
-pub(crate) fn sums_fields(rows: &[PageRow]) -> [Field; 5]
-    requires { length rows.now ≤ 64 }
-    ensures { result ≡ line_fields (sums_of (map row_of rows.now)) }
+pub(crate) fn sums_fields(rows: &PageRows) -> [Field; 5]
+    ensures { result ≡ line_fields (sums_of rows.now) }
 {
     [
         Field::in_columns::<PROJECT_COLUMNS>(0),

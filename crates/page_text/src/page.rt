@@ -34,7 +34,6 @@ pub fn write_rows(run: &mut [u8; LONGEST_TEXT], rows: &PageRows) -> usize
     ensures whole_lines { result ≡ 69 * (length rows.now + 1) }
     ensures within_the_run { result ≤ 4485 }
 {
-    let rows = rows.as_slice();
-    let end = write_lines(run, rows);
+    let end = write_lines(run, rows.as_slice());
     end + write_line(&mut run[end..], &sums_fields(rows))
 }

@@ -6,9 +6,9 @@ use Rattle.filed_pages.proofs.page_rows.Goals as goal
 use Rattle.filed_pages.proofs.page_rows.Goals.{After-push}
 
 -- the project's line is added
-one_more : (c : After-push) → (c.push.result ≡ Ok tt) × (c.push.new.self ≡ map page_line (map priced_row (take (c.loop-project.project-index + 1) c.args.projects.now)))
+one_more : (c : After-push) → (c.push.result ≡ Ok tt) × (c.push.new.self ≡ map page_line (map priced_row (take (c.loop-project.project-index + 1) c.as_slice-projects.result.now)))
 one_more c =
-    let more = pushed_more priced_row page_line c.args.projects.now c.loop-project.project-index c.project-item.result c.loop-project-test.true c.project-item.is _ _ c.requires c.loop-project.invariant c.page_row.ensures in
+    let more = pushed_more priced_row page_line c.as_slice-projects.result.now c.loop-project.project-index c.project-item.result c.loop-project-test.true c.project-item.is _ _ c.as_slice-projects.ensures.few c.loop-project.invariant c.page_row.ensures in
     (c.push.ensures.outcome.0 ∙ more.0, c.push.ensures.outcome.1 ∙ more.1)
 
 pub unwrap-requires : goal.unwrap-requires
