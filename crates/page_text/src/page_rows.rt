@@ -29,6 +29,7 @@ impl Model for PageRows {
     ghost view = { λ page. map row_of (rows_in page.rows) };
 }
 
+// `few` stands in three calls: the model hides from callers what the type knows.
 impl PageRows {
     /// No rows.
     pub fn new() -> Self
