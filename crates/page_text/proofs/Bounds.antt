@@ -16,7 +16,7 @@ pub record Within (limit : ℕ) (l : PageLine) : Type 0 where
   pub project : nat_abs l.project_number ≤ 99999999
   pub amounts : (a : Amount) → nat_abs (amount_in a l) ≤ limit
 
-row_amounts : (r : PageRow) (a : Amount) → nat_abs (amount_in a (row_of r)) ≤ 120000000000
+pub row_amounts : (r : PageRow) (a : Amount) → nat_abs (amount_in a (row_of r)) ≤ 120000000000
 row_amounts r expense_charge = r.expense_charge_range
 row_amounts r return_charge = r.return_charge_range
 row_amounts r depreciation = omega (arith, ints, r.depreciation_from_zero, r.depreciation_to_limit)

@@ -29,13 +29,18 @@ pub(crate) fn row_fields(row: &PageRow) -> [Field; 5]
 }
 
 /// The sum of an amount of the rows, in its columns.
+#[tactic(auto, using(crate::proofs::Adding::sum_small))]
 fn sum_field<F: Fn(&PageRow) -> i64>(rows: &PageRows, amount_of: F) -> Field
     ghost a: { Amount }
     requires callable { F.IsAlwaysCallable amount_of }
     requires reads { (row : _) (n : _) → F.post amount_of row n → n ≡ amount_in a (row_of row.now) }
     ensures { result ≡ in_columns 14 (sum_of (amount_in a) rows.now) }
 {
-    Field::in_columns::<AMOUNT_COLUMNS>(rows.as_slice().iter().map(|row| amount_of(row)).sum())
+    let mut sum = 0;
+    for row in rows.as_slice() {
+        sum += amount_of(row);
+    }
+    Field::in_columns::<AMOUNT_COLUMNS>(sum)
 }
 
 /// The fields of the line of the sums: project number 0 and the sum of each column.
