@@ -49,5 +49,5 @@ signed_decimal_is (pos m) h = decimal_is m (omega (arith, h.sfits)) ∙ sym (tex
 signed_decimal_is (negsuc m) h = ap (λ ds. 45 ∷ ds) (decimal_is (suc m) (omega (arith, h.sfits)))
 
 -- the same of a number of 128 bits as a call passes it on
-pub text_written : (n : ℤ) → SFits w128 n → signed_decimal (to_z w128 (of_z w128 n)) ≡ text_of n
-text_written n h = ap signed_decimal (to_z-of_z w128 n h) ∙ signed_decimal_is n h
+pub number_written : (n : ℤ) → SFits w128 n → signed_decimal (to_z w128 (of_z w128 n)) ≡ text_of n
+number_written n h = ap signed_decimal (to_z-of_z w128 n h) ∙ signed_decimal_is n h

@@ -1,5 +1,5 @@
 -- What writing a number gives, by its width.
-use Rattle.std.proofs.Common.{◌≡◌, ℕ, suc, ◌+◌, ◌-◌, ◌^◌, ◌<◌, ◌≤◌, leb, List, ◌++◌, length, replicate, ℤ, pos, negsuc, nat_abs, ap, ◌∙◌, arith}
+use Rattle.std.proofs.Common.{◌≡◌, ℕ, suc, ◌+◌, ◌-◌, ◌^◌, ◌<◌, ◌≤◌, leb, List, length, replicate, ℤ, pos, negsuc, nat_abs, ap, ◌∙◌, arith}
 use Rattle.std.proofs.lemmas.List.{length-append, length-replicate}
 use Rattle.std.proofs.lemmas.Bool.{cond-false, cond-true, le-leb, lt-leb}
 use Rattle.columns.specs.Fields.{accepted, refused, right_justified, written}
@@ -28,10 +28,3 @@ width_at_least_zero k m some h = omega (arith, ap length (text_at_least_zero m),
 pub width_within : (k : ℕ) (n : ℤ) → 0 < k → nat_abs n < 10 ^ k → width_of n ≤ k + 1
 width_within k (pos m) some h = omega (arith, width_at_least_zero k m some h)
 width_within k (negsuc m) some h = omega (arith, digits_within k (suc m) some h)
-
--- a number that ends in the last column
-pub written_from : (columns : List ℕ) (n : ℤ) (first : ℕ) → width_of n + first ≡ length columns → written columns n ≡ accepted (replicate first 32 ++ text_of n)
-unfolding right_justified
-written_from columns n first e =
-    let is : length columns - width_of n ≡ first = omega arith in
-    written_where_it_fits columns n (omega arith) ∙ ap (λ k. accepted (replicate k 32 ++ text_of n)) is

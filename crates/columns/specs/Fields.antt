@@ -52,6 +52,10 @@ accepted columns = record { answer = Ok tt; after = columns }
 abbrev pub refused : List ℕ → Writing
 refused columns = record { answer = Err TooWide; after = columns }
 
+-- a text written into columns: at their end where it fits them, and else refused
+abbrev pub text_written : List ℕ → List ℕ → Writing
+text_written columns text = cond (nat_le (length text) (length columns)) (accepted (replicate (length columns - length text) 32 ++ text)) (refused columns)
+
 -- a number written into columns: right-justified where it fits them, and else refused
 unfoldable pub written : List ℕ → ℤ → Writing
 written columns n = cond (nat_le (width_of n) (length columns)) (accepted (right_justified (length columns) n)) (refused columns)
