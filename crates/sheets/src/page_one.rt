@@ -4,7 +4,6 @@ ghost use Rattle.amounts.specs.Rounding.{rounded as rounded_of};
 ghost use Rattle.sheets.specs.declared.refusal.Refusal.TheVariants.{BaseNotAboveZero};
 ghost use Rattle.sheets.specs.Elements.{Small, SmallElements, SmallExpense, SmallOm, SmallReturn};
 ghost use Rattle.sheets.specs.Factors.{above_zero, based, bases_above_zero, expense_factors, factor_fits, factors_fit, factors_of, hundredths, om_factor as om_factor_of, page_one, return_factors};
-ghost use Rattle.sheets.specs.Tariff.{PageOneFollows};
 
 use crate::elements::{Elements, ExpenseElements, ReturnElements, TransmissionOm};
 use crate::factors::{ExpenseFactors, Factors, ReturnFactors};
@@ -107,9 +106,7 @@ fn factors_fit(factors: &Factors) -> bool
 // Line 3d's answer comes as a `bool`: it is the template's, and is asked between two questions of every template.
 pub(crate) fn page_one(elements: Elements, adjusted_om_fits: bool) -> Result<Factors, Refusal>
     requires { SmallElements elements }
-    ensures value { result ≡ page_one hundredths elements adjusted_om_fits }
-    ensures fits { IfOk result (λ p. factors_fit hundredths p ≡ true) }
-    ensures follows { IfOk result (PageOneFollows hundredths elements) }
+    ensures { result ≡ page_one hundredths elements adjusted_om_fits }
 {
     let factors = factors_of(elements)?;
     if !adjusted_om_fits {

@@ -21,9 +21,9 @@ use std::num::NonZeroU64;
 /// A sheet whose page 1 is finished. It takes no figure; it prices projects.
 #[derive(Drop)]
 pub struct WorkedSheet<T: Template> {
-    figures: Figures,
-    factors: Factors,
-    template: PhantomData<T>,
+    pub(crate) figures: Figures,
+    pub(crate) factors: Factors,
+    pub(crate) template: PhantomData<T>,
 }
 
 impl<T: Template> Model for WorkedSheet<T> {
@@ -85,18 +85,6 @@ impl Charge {
 }
 
 impl<T: Template> WorkedSheet<T> {
-    /// A sheet of figures and the factors that they make.
-    pub(crate) fn new(figures: Figures, factors: Factors) -> Self
-        requires { factors_fit hundredths factors ≡ true }
-        ensures { result ≡ record { figures = figures; factors = factors } }
-    {
-        WorkedSheet {
-            figures,
-            factors,
-            template: PhantomData,
-        }
-    }
-
     /// What line 4, where the template has one, charges on its base.
     fn om_charge(&self, base: i64) -> Charge
         requires { unsigned_abs base ≤ 10000000000 }

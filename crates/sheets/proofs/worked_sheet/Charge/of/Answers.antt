@@ -2,15 +2,9 @@ use Rattle.std.proofs.Common.{◌≡◌, ◌*ℤ◌, ◌≤◌, nat_abs, ap, ari
 use Rattle.amounts.proofs.Laws.{rounded_within}
 use Rattle.amounts.proofs.Products.{product_within}
 use Rattle.amounts.specs.Rounding.{rounded}
-use Rattle.std.proofs.lemmas.Int.{fits_signed_mul, ints, to_z-of_z}
+use Rattle.std.proofs.lemmas.Int.{ints, to_z-of_z}
 use Rattle.sheets.proofs.worked_sheet.Charge.of.Goals as goal
 use Rattle.sheets.proofs.worked_sheet.Charge.of.Goals.{After-rounded}
-
-pub overflow_mul-amount : goal.overflow_mul-amount
-overflow_mul-amount c =
-    let a = c.ranges.amount in
-    let b = c.ranges.factor in
-    simp to_z-of_z (fits_signed_mul w64 c.args.amount c.args.factor 10000000000 100000 c.requires.0 c.requires.1 (omega arith))
 
 -- the product fits, so it is what is rounded
 charged : (c : After-rounded) → (c.rounded.result ≡ rounded (c.args.amount *ℤ c.args.factor) 10000) × (nat_abs c.rounded.result ≤ 100000000000)
