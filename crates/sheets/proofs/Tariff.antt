@@ -1,6 +1,7 @@
 -- The factors and columns follow the tariff's own words.
 use Rattle.std.proofs.Common.{◌≡◌, ℕ, ◌*◌, ◌<◌, ◌≤◌, Bool, true, false, cond, Ok, Err, Result, List, [], ◌∷◌, map, ℤ, pos, ◌+ℤ◌, ◌-ℤ◌, ◌*ℤ◌, nat_abs, ◌<ℤ◌, Some, None, Option, sym, refl, ap, ◌∙◌, subst, mul-le-mul_right, le_of_mul-le-mul_right, arith}
 use native.Mathlib.Nat.{eq_of_mul-eq-mul_right}
+use Rattle.std.proofs.Math.Nat.{mul-pos}
 use Rattle.std.proofs.lemmas.Int.{ints, unsigned_abs-mul}
 use Rattle.std.specs.Option.{option_map}
 use Rattle.amounts.proofs.Laws.{rounded_is_nearest}
@@ -41,12 +42,9 @@ sum_over_base base (n ∷ ns) =
     ∙ times_assoc (n +ℤ total ns) u d
     ∙ ap (λ z. (n +ℤ total ns) *ℤ z) (times_comm u d)
 
-positive_product : (a b : ℕ) → 0 < a → 0 < b → 0 < a * b
-positive_product a b p q = omega (arith, mul-le-mul_right b p)
-
 sum_under_positive : (base : ℤ) (ns : List ℤ) → 0 < nat_abs base → 0 < (exact_sum (map (single base) ns)).under
 sum_under_positive base [] p = omega arith
-sum_under_positive base (n ∷ ns) p = positive_product (nat_abs base) (exact_sum (map (single base) ns)).under p (sum_under_positive base ns p)
+sum_under_positive base (n ∷ ns) p = mul-pos p (sum_under_positive base ns p)
 
 -- equal quotients n ÷ e and m ÷ d have the same nearest number of parts
 module _ (m n : ℤ) (d e scale : ℕ) (r : ℤ) (same : n *ℤ pos d ≡ m *ℤ pos e) where
