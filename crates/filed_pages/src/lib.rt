@@ -38,7 +38,7 @@ fn page_rows(projects: &PricedProjects) -> PageRows
 
 /// Writes the text of a filing at the start of the run and answers its length: a line for each
 /// project and the line of the sums, or the line of a refusal. The bytes after it stay as found.
-// It answers a length: the run is the caller's fixed memory.
+// It answers a length, by `Gives (printed ..)`: the run is the caller's fixed memory.
 pub fn write_pages(file: &[u8], run: &mut [u8; LONGEST_TEXT]) -> usize
     ensures outcome { Gives (printed (filing_text file.now) run.old) result run.new }
     ensures within_the_run { result ≤ 4485 }

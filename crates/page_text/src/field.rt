@@ -38,6 +38,7 @@ impl Field {
     }
 
     /// Writes the field at the start of the bytes; answers how long it is.
+    // `Gives (printed ..)`: it answers the length alone, and the bytes are the caller's.
     pub(crate) fn write(&self, bytes: &mut [u8]) -> usize
         requires { self.now.columns ≤ length bytes.old }
         ensures text { Gives (printed (field_text self.now) bytes.old) result bytes.new }

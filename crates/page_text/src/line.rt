@@ -57,7 +57,7 @@ pub(crate) fn sums_fields(rows: &PageRows) -> [Field; 5]
 }
 
 /// Writes fields one after another at the start of the bytes; answers how long they are.
-// Each writing function says its text by `Gives (printed ..)`: it is the one result, and the run is the caller's.
+// `Gives (printed ..)`: it answers the length alone, and the bytes are the caller's.
 fn write_fields(bytes: &mut [u8], fields: &[Field]) -> usize
     requires { fields_width fields.now ≤ length bytes.old }
     ensures text { Gives (printed (fields_text fields.now) bytes.old) result bytes.new }

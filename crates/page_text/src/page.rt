@@ -13,6 +13,7 @@ use crate::row::PageRow;
 pub const LONGEST_TEXT: usize = 4_485;
 
 /// Writes the line of each row at the start of the bytes; answers how long they are.
+// `Gives (printed ..)`: it answers the length alone, and the bytes are the caller's.
 fn write_lines(bytes: &mut [u8], rows: &[PageRow]) -> usize
     requires { 69 * length rows.now ≤ length bytes.old }
     ensures text { Gives (printed (flat_map line_text (map row_of rows.now)) bytes.old) result bytes.new }
@@ -27,7 +28,7 @@ fn write_lines(bytes: &mut [u8], rows: &[PageRow]) -> usize
 }
 
 /// Writes the text of the pages at the start of the run; answers how long it is.
-// It answers a length: the run is the caller's fixed memory.
+// It answers a length, by `Gives (printed ..)`: the run is the caller's fixed memory.
 pub fn write_rows(run: &mut [u8; LONGEST_TEXT], rows: &PageRows) -> usize
     ensures outcome { Gives (printed (page_text rows.now) run.old) result run.new }
     ensures reads_back { PageReadsBack rows.now run.new }

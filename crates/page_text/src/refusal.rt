@@ -18,8 +18,8 @@ fn refusal_fields(line: u16, number: u8) -> [Field; 2]
 }
 
 /// Writes the line of a refusal at the start of the run; answers how long it is.
-// By its number: the line holds numbers, and any library's refusal can be printed. It answers a
-// length: the run is the caller's fixed memory.
+// By its number: the line holds numbers, and any library's refusal can be printed.
+// It answers a length, by `Gives (printed ..)`: the run is the caller's fixed memory.
 pub fn write_refusal(run: &mut [u8; LONGEST_TEXT], line: u16, number: u8) -> usize
     ensures outcome { Gives (printed (refusal_text line number) run.old) result run.new }
     ensures reads_back { RefusalReadsBack line number run.new }

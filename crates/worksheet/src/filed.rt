@@ -16,10 +16,12 @@ fn print_filed<T: Printed>(rt: &(impl Print + AllocGlobal), pages: &Pages<T>) ->
 
 /// Prints both pages of the filing that is read, or why it is refused.
 pub fn show_filing(rt: &(impl Print + AllocGlobal), input: impl Read + Drop) -> io::Result<()> {
+    // As in pages: both are programs, and no library allocates.
     let mut file = Vec::new(rt.alloc());
     // One byte more, so that a longer filing is seen to be too long.
     input.take(LONGEST as u64 + 1).read_to_end(&mut file)?;
     match read_pages(&file) {
+        // An arm for each template: each is a type of pages of its own, and a pattern binds one type.
         Ok(Filing::Mm(pages)) => print_filed(rt, &pages),
         Ok(Filing::Cc(pages)) => print_filed(rt, &pages),
         Err(LineRefusal { line, refusal }) => {
