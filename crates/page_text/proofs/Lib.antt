@@ -1,5 +1,6 @@
 mod Adding
 mod Bounds
 mod Columns
+mod Pages
 mod Placing
 mod Reading

@@ -1,6 +1,6 @@
 ghost use Rattle.std.specs.Prelude.{◌≡◌, ◌+◌, ◌≤◌, ◌++◌, length};
 ghost use Rattle.page_text.specs.Fields.{fields_text, fields_width, newline};
-ghost use Rattle.page_text.specs.Lines.{in_columns, line_fields, sum_of, sums_of};
+ghost use Rattle.page_text.specs.Lines.{in_columns, line_fields, line_text, sum_of, sums_of};
 ghost use Rattle.page_text.specs.Outcomes.{Gives, printed};
 ghost use Rattle.page_text.specs.ReadBack.{Amount, amount_in};
 ghost use Rattle.page_text.specs.Rows.{row_of};
@@ -16,7 +16,7 @@ const PROJECT_COLUMNS: usize = 12;
 const AMOUNT_COLUMNS: usize = 14;
 
 /// The fields of a row's line, from the left.
-pub(crate) fn row_fields(row: &PageRow) -> [Field; 5]
+fn row_fields(row: &PageRow) -> [Field; 5]
     ensures { result ≡ line_fields (row_of row.now) }
 {
     [
@@ -44,7 +44,7 @@ fn sum_field<F: Fn(&PageRow) -> i64>(rows: &PageRows, amount_of: F) -> Field
 }
 
 /// The fields of the line of the sums: project number 0 and the sum of each column.
-pub(crate) fn sums_fields(rows: &PageRows) -> [Field; 5]
+fn sums_fields(rows: &PageRows) -> [Field; 5]
     ensures { result ≡ line_fields (sums_of rows.now) }
 {
     [
@@ -80,4 +80,24 @@ pub(crate) fn write_line(bytes: &mut [u8], fields: &[Field]) -> usize
     let end = write_fields(bytes, fields);
     bytes[end] = b'\n';
     end + 1
+}
+
+/// Writes the line of a row at the start of the bytes; answers how long it is.
+#[tactic(auto, unfolding(crate::specs::Lines::line_text))]
+pub(crate) fn write_row(bytes: &mut [u8], row: &PageRow) -> usize
+    requires { 69 ≤ length bytes.old }
+    ensures text { Gives (printed (line_text (row_of row.now)) bytes.old) result bytes.new }
+    ensures columns { result ≡ 69 }
+{
+    write_line(bytes, &row_fields(row))
+}
+
+/// Writes the line of the sums at the start of the bytes; answers how long it is.
+#[tactic(auto, unfolding(crate::specs::Lines::line_text))]
+pub(crate) fn write_sums(bytes: &mut [u8], rows: &PageRows) -> usize
+    requires { 69 ≤ length bytes.old }
+    ensures text { Gives (printed (line_text (sums_of rows.now)) bytes.old) result bytes.new }
+    ensures columns { result ≡ 69 }
+{
+    write_line(bytes, &sums_fields(rows))
 }

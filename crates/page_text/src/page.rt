@@ -5,7 +5,7 @@ ghost use Rattle.page_text.specs.Outcomes.{Gives, printed};
 ghost use Rattle.page_text.specs.ReadBack.{PageReadsBack};
 ghost use Rattle.page_text.specs.Rows.{row_of};
 
-use crate::line::{row_fields, sums_fields, write_line};
+use crate::line::{write_row, write_sums};
 use crate::page_rows::PageRows;
 use crate::row::PageRow;
 
@@ -22,13 +22,14 @@ fn write_lines(bytes: &mut [u8], rows: &[PageRow]) -> usize
     // By offset: after a loop over `chunks_exact_mut` only the lengths are known, so the proof did not close.
     let mut at = 0;
     for row in rows {
-        at += write_line(&mut bytes[at..], &row_fields(row));
+        at += write_row(&mut bytes[at..], row);
     }
     at
 }
 
 /// Writes the text of the pages at the start of the run; answers how long it is.
 // It answers a length, by `Gives (printed ..)`: the run is the caller's fixed memory.
+#[tactic(auto, using(crate::proofs::Pages::page_steps))]
 pub fn write_rows(run: &mut [u8; LONGEST_TEXT], rows: &PageRows) -> usize
     ensures outcome { Gives (printed (page_text rows.now) run.old) result run.new }
     ensures reads_back { PageReadsBack rows.now run.new }
@@ -36,5 +37,5 @@ pub fn write_rows(run: &mut [u8; LONGEST_TEXT], rows: &PageRows) -> usize
     ensures within_the_run { result ≤ 4485 }
 {
     let end = write_lines(run, rows.as_slice());
-    end + write_line(&mut run[end..], &sums_fields(rows))
+    end + write_sums(&mut run[end..], rows)
 }

@@ -1,6 +1,5 @@
-use Rattle.std.proofs.Common.{◌++◌, ◌-◌, length, take, drop, sym, ap, subst, arith}
+use Rattle.std.proofs.Common.{sym, subst, arith}
 use Rattle.std.proofs.lemmas.List.Folds.{flat_map-map}
-use Rattle.page_text.specs.Fields.{fields_text, fields_width, newline}
 use Rattle.page_text.specs.Lines.{line_text}
 use Rattle.page_text.specs.Outcomes.{Gives, printed}
 use Rattle.page_text.specs.Rows.{row_of}
@@ -8,15 +7,11 @@ use Rattle.page_text.proofs.Placing.{printed_all, printed_more}
 use Rattle.page_text.proofs.page.write_lines.Goals as goal
 
 pub loop-row-preserved : goal.loop-row-preserved
-unfolding line_text
-loop-row-preserved c =
-    let at = c.loop-row.at in
-    let was = c.loop-row.bytes in
-    let line = subst (λ fs. Gives (printed (fields_text fs ++ newline) (take (length was - at) (drop at was))) c.write_line-at.result c.write_line-at.new.bytes) c.row_fields.ensures c.write_line-at.ensures.text in (
-      printed_more (λ row. line_text (row_of row)) c.args.rows.now c.loop-row.row-index c.args.bytes.now was c.write_line-at.new.bytes at c.write_line-at.result c.row-item.result
-          c.loop-row-test.true c.row-item.is c.loop-row.invariant.0 line,
-      omega (arith, ap fields_width c.row_fields.ensures),
-    )
+loop-row-preserved c = (
+  printed_more (λ row. line_text (row_of row)) c.args.rows.now c.loop-row.row-index c.args.bytes.now c.loop-row.bytes c.write_row-at.new.bytes c.loop-row.at c.write_row-at.result c.row-item.result
+      c.loop-row-test.true c.row-item.is c.loop-row.invariant.0 c.write_row-at.ensures.text,
+  omega arith,
+)
 
 pub returns : goal.returns
 returns c = record {
