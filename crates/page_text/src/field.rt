@@ -1,6 +1,7 @@
 ghost use Rattle.std.specs.Prelude.{◌-◌, ◌^◌, ◌<◌, ◌≤◌, unsigned_abs};
-ghost use Rattle.page_text.specs.Fields.{PageField};
+ghost use Rattle.page_text.specs.Fields.{PageField, field_text};
 
+use crate::written::Written;
 use columns::write_number;
 use std::marker::Model;
 
@@ -20,10 +21,8 @@ impl Model for Field {
 }
 
 impl Field {
-    ghost use Rattle.std.specs.Prelude.{◌≡◌, length};
-    ghost use Rattle.page_text.specs.Fields.{field_text};
+    ghost use Rattle.std.specs.Prelude.{◌≡◌};
     ghost use Rattle.page_text.specs.Lines.{in_columns};
-    ghost use Rattle.page_text.specs.Outcomes.{Gives, printed};
 
     /// A number in its columns.
     pub(crate) fn in_columns<const COLUMNS: usize>(number: i64) -> Self
@@ -36,14 +35,14 @@ impl Field {
             number,
         }
     }
+}
 
-    /// Writes the field at the start of the bytes; answers how long it is.
-    // `Gives (printed ..)`: it answers the length alone, and the bytes are the caller's.
-    pub(crate) fn write(&self, bytes: &mut [u8]) -> usize
-        requires { self.now.columns ≤ length bytes.old }
-        ensures text { Gives (printed (field_text self.now) bytes.old) result bytes.new }
-        ensures columns { result ≡ self.now.columns }
-    {
+impl Written for Field {
+    ghost text = { field_text };
+
+    ghost width = { λ f. f.columns };
+
+    fn write(&self, bytes: &mut [u8]) -> usize {
         write_number(&mut bytes[..self.columns], i128::from(self.number)).unwrap();
         self.columns
     }

@@ -10,6 +10,7 @@ mod refusal;
 mod row;
 #[cfg(test)]
 mod tests;
+mod written;
 
 pub use page::{LONGEST_TEXT, write_rows};
 pub use page_rows::PageRows;

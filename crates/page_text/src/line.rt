@@ -8,6 +8,7 @@ ghost use Rattle.page_text.specs.Rows.{row_of};
 use crate::field::Field;
 use crate::page_rows::PageRows;
 use crate::row::PageRow;
+use crate::written::{Written, write_all};
 
 /// How wide the project number's columns are.
 const PROJECT_COLUMNS: usize = 12;
@@ -56,40 +57,27 @@ fn sums_fields(rows: &PageRows) -> [Field; 5]
     ]
 }
 
-/// Writes fields one after another at the start of the bytes; answers how long they are.
-// `Gives (printed ..)`: it answers the length alone, and the bytes are the caller's.
-fn write_fields(bytes: &mut [u8], fields: &[Field]) -> usize
-    requires { fields_width fields.now ≤ length bytes.old }
-    ensures text { Gives (printed (fields_text fields.now) bytes.old) result bytes.new }
-    ensures columns { result ≡ fields_width fields.now }
-{
-    // By offset: no plainer form, since each field has a width of its own.
-    let mut at = 0;
-    for field in fields {
-        at += field.write(&mut bytes[at..]);
-    }
-    at
-}
-
 /// Writes fields and a newline at the start of the bytes; answers how long they are.
+// `Gives (printed ..)`: it answers the length alone, and the bytes are the caller's.
 pub(crate) fn write_line(bytes: &mut [u8], fields: &[Field]) -> usize
     requires { fields_width fields.now + 1 ≤ length bytes.old }
     ensures text { Gives (printed (fields_text fields.now ++ newline) bytes.old) result bytes.new }
     ensures columns { result ≡ fields_width fields.now + 1 }
 {
-    let end = write_fields(bytes, fields);
+    let end = write_all(bytes, fields);
     bytes[end] = b'\n';
     end + 1
 }
 
-/// Writes the line of a row at the start of the bytes; answers how long it is.
-#[tactic(auto, unfolding(crate::specs::Lines::line_text))]
-pub(crate) fn write_row(bytes: &mut [u8], row: &PageRow) -> usize
-    requires { 69 ≤ length bytes.old }
-    ensures text { Gives (printed (line_text (row_of row.now)) bytes.old) result bytes.new }
-    ensures columns { result ≡ 69 }
-{
-    write_line(bytes, &row_fields(row))
+impl Written for PageRow {
+    ghost text = { λ row. line_text (row_of row) };
+
+    ghost width = { λ row. 69 };
+
+    #[tactic(auto, unfolding(crate::specs::Lines::line_text))]
+    fn write(&self, bytes: &mut [u8]) -> usize {
+        write_line(bytes, &row_fields(self))
+    }
 }
 
 /// Writes the line of the sums at the start of the bytes; answers how long it is.

@@ -8,8 +8,8 @@ use Rattle.columns.proofs.Widths.{right_justified_fills}
 use Rattle.page_text.specs.Fields.{field_text}
 use Rattle.page_text.specs.Outcomes.{Gives, printed}
 use Rattle.page_text.proofs.Columns.{accepted_there, wide_enough}
-use Rattle.page_text.proofs.field.Field.write.Goals as goal
-use Rattle.page_text.proofs.field.Field.write.Goals.{After-write_number}
+use Rattle.page_text.proofs.field.FieldWritten.write.Goals as goal
+use Rattle.page_text.proofs.field.FieldWritten.write.Goals.{After-write_number}
 
 narrow : (c : After-write_number) → width_of c.self.inside.number ≤ c.self.inside.columns
 narrow c = let f = c.self.inside in wide_enough f.columns f.number c.self.invariant.0 c.self.invariant.1
