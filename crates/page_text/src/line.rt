@@ -69,6 +69,7 @@ pub(crate) fn write_line(bytes: &mut [u8], fields: &[Field]) -> usize
     end + 1
 }
 
+/// A row is written as its line.
 impl Written for PageRow {
     ghost text = { λ row. line_text (row_of row) };
 

@@ -8,6 +8,7 @@ use Rattle.page_text.proofs.Placing.{printed_byte, printed_next}
 use Rattle.page_text.proofs.Reading.{refusal_reads_back}
 use Rattle.page_text.proofs.refusal.write_refusal.Goals as goal
 
+-- in full: with a lemma for the whole run `grind` stops at its limit of term size
 pub returns : goal.returns
 unfolding refusal_text
 returns c =
