@@ -42,10 +42,10 @@ fn read_named(line: Record, reader: FilingReader) -> Result<Filing, LineRefusal>
     }
 }
 
-/// Reads a filing from its T line on.
-// On its own: with both clauses of `read_pages` in one function the second did not close.
-fn read_whole(file: &[u8]) -> Result<Filing, LineRefusal>
-    ensures { seen view result ≡ filed file.now }
+/// Reads a filing and works both its pages, or answers the first line that is refused.
+pub fn read_pages(file: &[u8]) -> Result<Filing, LineRefusal>
+    ensures outcome { seen view result ≡ filed file.now }
+    ensures records_and_bytes_determine_each_other { OnOk result (RecordsAndBytesDetermineEachOther file.now) }
 {
     if file.len() > LONGEST {
         return Err(Refusal::FileTooLong.at_line(1));
@@ -58,14 +58,6 @@ fn read_whole(file: &[u8]) -> Result<Filing, LineRefusal>
         'T' => read_named(line, reader),
         _ => Err(line.refused(Refusal::LetterOutOfPlace)),
     }
-}
-
-/// Reads a filing and works both its pages, or answers the first line that is refused.
-pub fn read_pages(file: &[u8]) -> Result<Filing, LineRefusal>
-    ensures outcome { seen view result ≡ filed file.now }
-    ensures records_and_bytes_determine_each_other { OnOk result (RecordsAndBytesDetermineEachOther file.now) }
-{
-    read_whole(file)
 }
 
 impl Filing {
