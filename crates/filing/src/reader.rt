@@ -83,9 +83,7 @@ impl<'a> FilingReader<'a> {
             return Ok(None);
         }
         let line = self.line();
-        let Some((bytes, rest)) = self.next_line() else {
-            return Err(Refusal::NotALine.at_line(line));
-        };
+        let (bytes, rest) = self.next_line().ok_or(Refusal::NotALine.at_line(line))?;
         // Worked out and not counted: a record says where it stands in the file.
         let offset = 57 * usize::from(self.lines);
         self.rest = rest;
