@@ -68,11 +68,13 @@ impl<'a> FilingReader<'a> {
         ensures whole_line { MatchOption result (whole (next_line self.now) ≡ false) (λ line. (whole (next_line self.now) ≡ true) × (line.0.now ≡ take 56 (next_line self.now))) }
         ensures rest_follows { IfSome result (λ line. line.1.now ≡ drop 57 self.now.rest.now) }
     {
-        let (columns, after) = self.rest.split_first_chunk()?;
-        if columns.contains(&b'\n') {
+        let (line, rest) = self.rest.split_first_chunk::<57>()?;
+        // Never none: a line of 57 bytes has a first 56.
+        let columns = line.first_chunk()?;
+        if line[56] != b'\n' || columns.contains(&b'\n') {
             return None;
         }
-        Some((columns, after.strip_prefix(b"\n")?))
+        Some((columns, rest))
     }
 
     /// The next line, or nothing at the end of the file; a refusal leaves the reader where it is.
