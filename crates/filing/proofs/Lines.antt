@@ -1,8 +1,15 @@
 -- The lines of a filing, as a reader takes them from the bytes.
-use Rattle.std.proofs.Common.{◌≡◌, ℕ, suc, ◌<◌, ◌≤◌, true, false, eqb, List, [], ◌∷◌, length, get_or, take, drop, sym, ap, ⊎_elim, arith, false-eqb}
+use Rattle.std.proofs.Common.{◌≡◌, ℕ, suc, ◌<◌, ◌≤◌, Bool, true, false, not, eqb, List, [], ◌∷◌, length, get_or, take, drop, sym, ap, ⊎_elim, arith, false-eqb}
+use Rattle.std.specs.List.{IsAnyAnswer}
+use Rattle.std.proofs.lemmas.List.Folds.{list_any_at, list_any_none}
 use Rattle.std.proofs.lemmas.List.{get_or_past, length-drop, length-take}
 use Rattle.std.proofs.lemmas.Bool.{and_left, and_parts, cases_lt, eqb-true, ne_eqb}
 use Rattle.filing.specs.Lines.{cut, line_count, lines_of, whole, without}
+
+-- what `contains` answers
+pub without_from : (b : ℕ) (bs : List ℕ) (r : Bool) → IsAnyAnswer (λ y t. eqb y b ≡ t) bs r → not r ≡ without b bs
+without_from b bs true h = ap not (sym (list_any_at (λ x. eqb x b) bs h.0 0 h.1 (h.2 0)))
+without_from b bs false h = ap not (sym (list_any_none (λ x. eqb x b) bs (λ k d l. h k d (omega arith) l)))
 
 -- fewer bytes are no whole line
 pub too_short : (line : List ℕ) → length line < 57 → whole line ≡ false

@@ -40,6 +40,7 @@ impl PricedProjects {
     }
 
     /// Whether there are as many projects as there can be.
+    // A question of its own: one project too many is refused before it is priced.
     pub(crate) fn is_full(&self) -> bool
         ensures { IsTrue result ↔ (64 ≤ length (rows_of self.now)) }
     {

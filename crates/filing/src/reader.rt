@@ -6,6 +6,7 @@ use crate::refusal::{LineRefusal, Refusal};
 /// file, and the line's number from 1.
 #[derive(Clone, Copy)]
 pub(crate) struct Record<'a> {
+    // A `char`, matched by the letters of the file format: any other byte is refused where it stands.
     pub(crate) letter: char,
     pub(crate) bytes: &'a [u8; 56],
     pub(crate) offset: usize,
@@ -78,6 +79,7 @@ impl<'a> FilingReader<'a> {
     }
 
     /// The next line, or nothing at the end of the file; a refusal leaves the reader where it is.
+    // No iterator: a loop goes on from where another stopped, and `?` ends either at a refusal.
     pub(crate) fn next_record(&mut self) -> Result<Option<Record<'a>>, LineRefusal>
         ensures { Nexts self.old result self.new }
     {

@@ -30,6 +30,7 @@ fn read_figures<'a, T: Template>(
 }
 
 /// Prices the projects of the other P lines.
+// `unread reader`, also in `read_lines`: the contract is the one result, and the lines left are its argument.
 fn price_rest<T: Template>(
     mut reader: FilingReader,
     mut pages: Pages<T>,
