@@ -1,5 +1,5 @@
 -- The records of an accepted filing, written back, are its bytes.
-use Rattle.std.proofs.Common.{◌≡◌, ℕ, zero, suc, ◌+◌, ◌-◌, ◌*◌, ◌≤◌, Bool, true, false, cond, eqb, List, [], ◌∷◌, ◌++◌, map, length, get_or, take, drop, replicate, ℤ, IfOk, Ok, Err, codes, Result, sym, refl, ap, ◌∙◌, arith}
+use Rattle.std.proofs.Common.{◌≡◌, ℕ, zero, suc, ◌+◌, ◌-◌, ◌*◌, ◌<◌, ◌≤◌, Bool, true, false, cond, eqb, List, [], ◌∷◌, ◌++◌, map, length, get_or, take, drop, replicate, ℤ, IfOk, Ok, Err, codes, Result, sym, refl, ap, ◌∙◌, arith}
 use Rattle.std.proofs.lemmas.Slice.Eq.{bytes_eq-Decides}
 use Rattle.std.proofs.lemmas.List.{drop-drop, drop_more, get_or-take, length-append, length-drop, length-replicate, length-take-le, nil_from_length, take_all, take-append-drop, take_more, take-take}
 use Rattle.std.proofs.lemmas.Bool.{and_parts, eqb-true}
@@ -57,6 +57,9 @@ text_back k field text wide e =
     let spaces : s.0 ≡ k - length text = omega (arith, simp (length-append, length-replicate) at (ap length is)) in
     is ∙ ap (λ n. replicate n 32 ++ text) spaces
 
+first_byte_and_rest : (line : List ℕ) → 0 < length line → line ≡ get_or line 0 0 ∷ drop 1 line
+first_byte_and_rest line h = drop_more line 0 0 h
+
 -- 56 bytes that read as a record are its letter and its fields
 abbrev Held : List ℕ → Type 0
 Held line = (r : FilingRecord) × (record_on line ≡ Ok r) × (line ≡ letter_of r ∷ fields_of r)
@@ -88,7 +91,7 @@ module _ (line : List ℕ) (long : length line ≡ 56) where
       ∙ text_back k _ [] (wide first k (omega arith)) (nil_from_length _ (eqb-true _ 0 e))
 
   held : (r : FilingRecord) → get_or line 0 0 ≡ letter_of r → record_by (letter_of r) line ≡ Ok r → drop 1 line ≡ fields_of r → Held line
-  held r is e fields = (r, ap (λ l. record_by l line) is ∙ e, drop_more line 0 0 (omega arith) ∙ (λ i. is i ∷ fields i))
+  held r is e fields = (r, ap (λ l. record_by l line) is ∙ e, first_byte_and_rest line (omega arith) ∙ (λ i. is i ∷ fields i))
 
   template_held : (name : List ℕ) → get_or line 0 0 ≡ 84 → label_in (columns_from 2 4 line) ≡ Ok name → blank (columns_from 5 56 line) ≡ true → Held line
   template_held name is n b =
