@@ -10,8 +10,7 @@ returns-then-is_empty c = (no_line _ c.if-is_empty.ensures, refl)
 
 pub returns-in_err-bytes : goal.returns-in_err-bytes
 returns-in_err-bytes c =
-    let none = c.in_err-bytes.ensures.ok_part in
-    let not_whole = (rw none at c.next_line.ensures).whole_line in
+    let not_whole = (rw c.in_err-bytes.ensures.ok_part at c.next_line.ensures).whole_line in
     let lines = first_line _ c.if-is_empty.ensures in
     grind (arith, common_steps)
 
