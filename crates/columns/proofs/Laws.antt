@@ -1,8 +1,9 @@
 -- Reading and writing are each other's inverse.
-use Rattle.std.proofs.Common.{◌≡◌, ℕ, zero, suc, ◌+◌, ◌-◌, ◌^◌, ◌<◌, ◌≤◌, true, eqb, List, [], ◌∷◌, ◌++◌, length, get_or, replicate, ℤ, nat_abs, Ok, sym, refl, ap, ◌∙◌, subst, ⊎_elim, arith}
+use Rattle.std.proofs.Common.{◌≡◌, ℕ, zero, suc, ◌+◌, ◌-◌, ◌^◌, ◌<◌, ◌≤◌, true, eqb, List, [], ◌∷◌, ◌++◌, length, get_or, replicate, ℤ, nat_abs, Ok, sym, refl, ap, ◌∙◌, subst, ⊎_elim, arith, SFits}
 use native.Mathlib.Nat.{pow-le-pow_right}
+use mir.Syntax.{w128}
 use Rattle.std.proofs.lemmas.List.{length-append, length-replicate}
-use Rattle.std.proofs.lemmas.Bool.{both_ways, cases_Bool, cases_lt, cond-false, cond-true, eqb-true, ne_eqb}
+use Rattle.std.proofs.lemmas.Bool.{both_ways, cases_Bool, cases_lt, cond-false, cond-true, eqb-true, lt-ltb, ne_eqb}
 use Rattle.std.specs.Str.Parse.{signed_digits_value}
 use Rattle.columns.specs.Fields.{Holds, ReadsWhatIsHeld, UndoesWriting, accepted, after_spaces, in_range, reading, right_justified, well_formed, written}
 use Rattle.columns.specs.Texts.{Spells, digits_of, sign_of, text_of, width_of}
@@ -86,6 +87,11 @@ undoes_writing field = record {
   number_written_is_read_back = λ columns n r e. held_is_read field n r (written_is_held columns field n e);
   number_read_is_written_back = λ columns n l e. held_is_written columns field n l (read_is_held field n e).0;
 }
+
+-- for callers: a number that fits its columns is read back from them
+pub written_reads_back : (columns : List ℕ) (n : ℤ) → SFits w128 n → width_of n ≤ length columns → reading (written columns n).after ≡ Ok n
+unfolding right_justified
+written_reads_back columns n f fits = ap (λ w. reading w.after) (written_where_it_fits columns n fits) ∙ held_is_read _ n (lt-ltb _ _ f.sfits) (length columns - width_of n, refl)
 
 -- for callers: a number read from at most k columns is below 10 ^ k
 pub read_is_below : (k : ℕ) (field : List ℕ) (n : ℤ) → length field ≤ k → reading field ≡ Ok n → nat_abs n < 10 ^ k

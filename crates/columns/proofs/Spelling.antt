@@ -1,5 +1,5 @@
 -- A number's text and the number that it spells.
-use Rattle.std.proofs.Common.{◌≡◌, ℕ, zero, suc, ◌<◌, ◌≤◌, true, false, cond, eqb, ◌⊎◌, List, [], ◌∷◌, ◌++◌, length, get_or, ℤ, pos, negsuc, neg_ℤ, Ok, Err, Result, IsUtf8, IsAscii, sym, refl, ap, ◌∙◌, subst, inl, inr, ⊎_elim, arith, SFits}
+use Rattle.std.proofs.Common.{◌≡◌, ℕ, zero, suc, ◌<◌, ◌≤◌, true, false, cond, eqb, ◌⊎◌, List, [], ◌∷◌, ◌++◌, length, get_or, ℤ, pos, negsuc, neg_ℤ, Ok, Err, Result, IsUtf8, sym, refl, ap, ◌∙◌, subst, inl, inr, ⊎_elim, arith, SFits}
 use mir.Syntax.{w128}
 use Rattle.std.proofs.lemmas.Fmt.{IsAscii-from_digits}
 use Rattle.std.proofs.lemmas.Slice.Eq.{bytes_eq-Decides}
@@ -7,6 +7,7 @@ use Rattle.std.proofs.lemmas.List.{get_or_default}
 use Rattle.std.proofs.lemmas.Str.Parse.{without_leading_plus_none, digit_at}
 use Rattle.std.proofs.lemmas.Bool.{and_from, and_parts, cases_Bool, cases_lt, cond-false, cond-true, eqb-true, false≢true, le-ltb, lt-ltb, ltb-true, ne_eqb}
 use Rattle.std.proofs.lemmas.Str.{IsUtf8-from_ascii}
+use Rattle.std.proofs.lemmas.Str.Ascii.{IsAscii-cons}
 use Rattle.std.proofs.lemmas.Bool.Decides.{nat_tests}
 use Rattle.std.specs.Result.{MatchResult}
 use Rattle.std.specs.Str.Parse.{IsNumeral, ParsesSigned, without_leading_plus, without_leading_sign, starts_with_minus, signed_digits_value, digits_value}
@@ -33,10 +34,6 @@ begins_with_minus : (ds : List ℕ) → 0 < length ds → 48 < get_or ds 0 0 →
 begins_with_minus [] some low high = absurd (omega arith)
 begins_with_minus (c ∷ cs) some low high = grind (arith, nat_tests)
 
-ascii_minus : (ds : List ℕ) → IsAscii ds → IsAscii (45 ∷ ds)
-ascii_minus ds a zero = omega arith
-ascii_minus ds a (suc i) = a i
-
 pub text_at_least_zero : (m : ℕ) → text_of (pos m) ≡ digits_of m
 text_at_least_zero m = ap (λ b. cond b (45 ∷ []) [] ++ digits_of m) (le-ltb m 0 (omega arith))
 
@@ -53,7 +50,7 @@ text_readable (negsuc m) =
     let r = digits_spell (suc m) in (
       (
         begins_with_minus (digits_of (suc m)) (some_digit (suc m)) (leading_above_zero (suc m) (omega arith)) (first_digit (suc m)).1,
-        IsUtf8-from_ascii _ (ascii_minus _ (IsAscii-from_digits _ r.0.1)),
+        IsUtf8-from_ascii _ (IsAscii-cons 45 _ (omega arith) (IsAscii-from_digits _ r.0.1)),
         r.0,
       ),
       ap (λ v. neg_ℤ (pos v)) r.1,
