@@ -91,7 +91,7 @@ undoes_writing field = record {
 -- for callers: a number that fits its columns is read back from them
 pub written_reads_back : (columns : List ℕ) (n : ℤ) → SFits w128 n → width_of n ≤ length columns → reading (written columns n).after ≡ Ok n
 unfolding right_justified
-written_reads_back columns n f fits = ap (λ w. reading w.after) (written_where_it_fits columns n fits) ∙ held_is_read _ n (lt-ltb _ _ f.sfits) (length columns - width_of n, refl)
+written_reads_back columns n f fits = rw written_where_it_fits (held_is_read _ n (lt-ltb _ _ f.sfits) (_, refl))
 
 -- for callers: a number read from at most k columns is below 10 ^ k
 pub read_is_below : (k : ℕ) (field : List ℕ) (n : ℤ) → length field ≤ k → reading field ≡ Ok n → nat_abs n < 10 ^ k

@@ -1,7 +1,7 @@
 -- What writing a number gives, by its width.
-use Rattle.std.proofs.Common.{◌≡◌, ℕ, suc, ◌+◌, ◌-◌, ◌^◌, ◌<◌, ◌≤◌, leb, List, length, replicate, ℤ, pos, negsuc, nat_abs, ap, ◌∙◌, ⊎_elim, arith}
+use Rattle.std.proofs.Common.{◌≡◌, ℕ, suc, ◌+◌, ◌-◌, ◌^◌, ◌<◌, ◌≤◌, leb, List, length, replicate, ℤ, pos, negsuc, nat_abs, ap, ◌∙◌, arith}
 use Rattle.std.proofs.lemmas.List.{length-append, length-replicate}
-use Rattle.std.proofs.lemmas.Bool.{cases_lt, cond-false, cond-true, le-leb, lt-leb}
+use Rattle.std.proofs.lemmas.Bool.{cond-false, cond-true, le-leb, lt-leb}
 use Rattle.columns.specs.Fields.{accepted, refused, right_justified, written}
 use Rattle.columns.specs.Texts.{text_of, width_of}
 use Rattle.columns.proofs.Digits.{digits_within}
@@ -23,11 +23,8 @@ right_justified_fills columns n h = length-append (replicate (columns - width_of
 
 -- writing keeps the number of columns
 pub written_keeps_length : (columns : List ℕ) (n : ℤ) → length (written columns n).after ≡ length columns
-written_keeps_length columns n =
-    ⊎_elim
-    (λ l. ap (λ w. length w.after) (refused_where_too_wide columns n l))
-    (λ l. ap (λ w. length w.after) (written_where_it_fits columns n l) ∙ right_justified_fills (length columns) n l)
-    (cases_lt (length columns) (width_of n))
+unfolding written
+written_keeps_length columns n = grind (arith, right_justified_fills)
 
 -- a size below 10 ^ k takes at most k columns, and one more below zero
 pub width_at_least_zero : (k m : ℕ) → 0 < k → m < 10 ^ k → width_of (pos m) ≤ k
@@ -39,7 +36,7 @@ width_within k (negsuc m) some h = omega (arith, digits_within k (suc m) some h)
 
 -- so k columns are enough for one, and one more for the other
 pub written_at_least_zero : (k m : ℕ) (columns : List ℕ) → 0 < k → m < 10 ^ k → k ≤ length columns → written columns (pos m) ≡ accepted (right_justified (length columns) (pos m))
-written_at_least_zero k m columns some h wide = written_where_it_fits columns (pos m) (omega (arith, width_at_least_zero k m some h))
+written_at_least_zero k m columns some h wide = grind (arith, written_where_it_fits, width_at_least_zero)
 
 pub written_within : (k : ℕ) (n : ℤ) (columns : List ℕ) → 0 < k → nat_abs n < 10 ^ k → k + 1 ≤ length columns → written columns n ≡ accepted (right_justified (length columns) n)
-written_within k n columns some h wide = written_where_it_fits columns n (omega (arith, width_within k n some h))
+written_within k n columns some h wide = grind (arith, written_where_it_fits, width_within)
