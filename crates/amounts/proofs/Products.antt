@@ -13,9 +13,6 @@ times_assoc a b c =
     let r = product_is b c in
     omega (arith, ints, ap (λ n. n * up c) l.0, ap (λ n. n * down c) l.0, ap (λ n. n * up c) l.1, ap (λ n. n * down c) l.1, ap (λ n. up a * n) r.0, ap (λ n. down a * n) r.0, ap (λ n. up a * n) r.1, ap (λ n. down a * n) r.1)
 
-pub times_comm : (a b : ℤ) → a *ℤ b ≡ b *ℤ a
-times_comm a b = omega (arith, ints)
-
 pub times_mono : (a b : ℤ) (k : ℕ) → a ≤ℤ b → (a *ℤ pos k) ≤ℤ (b *ℤ pos k)
 times_mono a b k h = omega (arith, ints, mul-le-mul_right k (le_out a b h))
 

@@ -1,7 +1,6 @@
 ghost use Rattle.amounts.specs.Rounding.{Rounds, RoundsDown, nearest as nearest_of, rounded as rounded_of, rounded_down as rounded_down_of};
 ghost use Rattle.std.specs.NonZero.{non_zero_u64_get};
-ghost use Rattle.std.specs.Int.{int_div_euclid};
-ghost use Rattle.std.specs.Prelude.{◌≡◌, pos};
+ghost use Rattle.std.specs.Prelude.{◌≡◌};
 
 use std::num::NonZeroU64;
 
@@ -24,20 +23,12 @@ pub fn rounded(n: i64, d: NonZeroU64) -> i64
     signed as i64
 }
 
-/// The quotient whose remainder is not negative.
-// On its own: the cast below is then all that is left to prove of rounding down.
-fn quotient_below(n: i64, d: NonZeroU64) -> i128
-    ensures { result ≡ int_div_euclid n (pos (non_zero_u64_get d)) }
-{
-    i128::from(n).div_euclid(i128::from(d.get()))
-}
-
 /// `n ÷ d` to the next whole number not above.
 pub fn rounded_down(n: i64, d: NonZeroU64) -> i64
     ensures value { result ≡ rounded_down_of n (non_zero_u64_get d) }
     ensures rounds_down { RoundsDown n (non_zero_u64_get d) result }
 {
-    quotient_below(n, d) as i64
+    i128::from(n).div_euclid(i128::from(d.get())) as i64
 }
 
 #[cfg(test)]

@@ -1,8 +1,9 @@
 -- Shares fill the money up to fewer cents than there are rows.
 use Rattle.std.proofs.Common.{◌≡◌, ℕ, ◌<◌, List, [], ◌∷◌, length, ℤ, pos, negsuc, ◌+ℤ◌, ◌*ℤ◌, ◌≤ℤ◌, ◌<ℤ◌, sym, refl, ap, arith}
+use Rattle.std.proofs.Math.IntN.{*ℤ_comm}
 use Rattle.std.proofs.lemmas.Int.{ints, by_lt_z}
 use Rattle.amounts.proofs.Laws.{rounds_down}
-use Rattle.amounts.proofs.Products.{times_comm, times_mono, times_sum}
+use Rattle.amounts.proofs.Products.{times_mono, times_sum}
 use Rattle.amounts.specs.Rounding.{NextNotAbove, rounded_down}
 use Rattle.settlement.specs.Rules.{share, sum_over, unsigned}
 
@@ -23,7 +24,7 @@ module _ (money : ℤ) (d : ℕ) (above : 0 < d) {X : Type 0} (column : X → �
       (law.not_above, omega (arith, ints, law.next_above, next_multiple (part x) (pos d)))
 
   columns_more : (x : X) (xs : List X) → money *ℤ sum_over column (x ∷ xs) ≡ (money *ℤ column x) +ℤ (money *ℤ sum_over column xs)
-  columns_more x xs = omega (arith, ints, times_sum money (column x) (sum_over column xs), times_comm money (column x +ℤ sum_over column xs), times_comm money (column x), times_comm money (sum_over column xs))
+  columns_more x xs = omega (arith, ints, times_sum money (column x) (sum_over column xs), *ℤ_comm money (column x +ℤ sum_over column xs), *ℤ_comm money (column x), *ℤ_comm money (sum_over column xs))
 
   shares_below : (xs : List X) → (sum_over part xs *ℤ pos d) ≤ℤ (money *ℤ sum_over column xs)
   shares_below [] = omega (arith, ints)

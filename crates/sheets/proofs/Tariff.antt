@@ -1,11 +1,12 @@
 -- The factors and columns follow the tariff's own words.
 use Rattle.std.proofs.Common.{◌≡◌, ℕ, ◌*◌, ◌<◌, ◌≤◌, Bool, true, false, cond, Ok, Err, Result, List, [], ◌∷◌, map, ℤ, pos, ◌+ℤ◌, ◌-ℤ◌, ◌*ℤ◌, nat_abs, ◌<ℤ◌, Some, None, Option, sym, refl, ap, ◌∙◌, subst, mul-le-mul_right, le_of_mul-le-mul_right, arith}
 use native.Mathlib.Nat.{eq_of_mul-eq-mul_right}
+use Rattle.std.proofs.Math.IntN.{*ℤ_comm}
 use Rattle.std.proofs.Math.Nat.{mul-pos}
 use Rattle.std.proofs.lemmas.Int.{ints, unsigned_abs-mul}
 use Rattle.std.specs.Option.{option_map}
 use Rattle.amounts.proofs.Laws.{rounded_is_nearest}
-use Rattle.amounts.proofs.Products.{times_sum, times_difference, times_assoc, times_comm}
+use Rattle.amounts.proofs.Products.{times_sum, times_difference, times_assoc}
 use Rattle.amounts.specs.Rounding.{Nearest}
 use Rattle.sheets.specs.declared.elements.Elements.{Elements}
 use Rattle.sheets.specs.declared.elements.ExpenseElements.{ExpenseElements}
@@ -40,7 +41,7 @@ sum_over_base base (n ∷ ns) =
     ∙ sym (times_sum d (n *ℤ u) (total ns *ℤ u))
     ∙ ap (λ z. z *ℤ d) (sym (times_sum u n (total ns)))
     ∙ times_assoc (n +ℤ total ns) u d
-    ∙ ap (λ z. (n +ℤ total ns) *ℤ z) (times_comm u d)
+    ∙ ap (λ z. (n +ℤ total ns) *ℤ z) (*ℤ_comm u d)
 
 sum_under_positive : (base : ℤ) (ns : List ℤ) → 0 < nat_abs base → 0 < (exact_sum (map (single base) ns)).under
 sum_under_positive base [] p = omega arith
@@ -49,7 +50,7 @@ sum_under_positive base (n ∷ ns) p = mul-pos p (sum_under_positive base ns p)
 -- equal quotients n ÷ e and m ÷ d have the same nearest number of parts
 module _ (m n : ℤ) (d e scale : ℕ) (r : ℤ) (same : n *ℤ pos d ≡ m *ℤ pos e) where
   swapped : (a b c : ℤ) → (a *ℤ b) *ℤ c ≡ (a *ℤ c) *ℤ b
-  swapped a b c = times_assoc a b c ∙ ap (λ z. a *ℤ z) (times_comm b c) ∙ sym (times_assoc a c b)
+  swapped a b c = times_assoc a b c ∙ ap (λ z. a *ℤ z) (*ℤ_comm b c) ∙ sym (times_assoc a c b)
 
   scaled_same : (n *ℤ pos scale) *ℤ pos d ≡ (m *ℤ pos scale) *ℤ pos e
   scaled_same = swapped n (pos scale) (pos d) ∙ ap (λ z. z *ℤ pos scale) same ∙ swapped m (pos e) (pos scale)
