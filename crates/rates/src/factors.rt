@@ -14,10 +14,5 @@ pub fn factor<L: RateList>(list: &L, year: u16) -> Option<u32>
     ensures adds_up { AddsUp (L.rates list.now) (january year) interest_months result }
 {
     let january = 12 * u32::from(year);
-    let mut sum = 0;
-    // A loop: of a `sum` into an `Option` it is not proved that one missing month leaves nothing.
-    for month in january..january + INTEREST_MONTHS {
-        sum += list.rate(month)?;
-    }
-    Some(sum)
+    (january..january + INTEREST_MONTHS).try_fold(0, |sum, month| Some(sum + list.rate(month)?))
 }

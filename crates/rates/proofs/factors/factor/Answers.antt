@@ -1,36 +1,27 @@
-use Rattle.std.proofs.Common.{◌≡◌, ◌-◌, ◌+◌, Some, arith, sym, ◌∙◌}
-use Rattle.rates.specs.Rates.{january}
+use Rattle.std.proofs.Common.{◌≡◌, ◌*◌, ◌<◌, ◌≤◌, length, arith, sym, ap, subst, ◌∙◌, rules}
+use Rattle.rates.specs.Rates.{Within, january, highest}
 use Rattle.rates.specs.Factor.{interest_months, sum_of}
-use Rattle.rates.proofs.Sums.{adds_up, month_later, no_sum, none_yet, sum_within}
+use Rattle.rates.proofs.Sums.{adds_up, months_added, months_tried, sum_within, zero_plus}
 use Rattle.rates.proofs.factors.factor.Goals as goal
 
-pub loop-month-init : goal.loop-month-init
-loop-month-init g c = record {
-  sum_so_far = rw c.from-january.ensures (none_yet (g.L.RateList.rates c.args.list.now) (january c.args.year));
-  within_highest = omega arith;
-}
-
-pub loop-month-preserved : goal.loop-month-preserved
-loop-month-preserved g c =
+pub try_fold-requires-clause-callable : goal.try_fold-requires-clause-callable
+try_fold-requires-clause-callable g c =
     let rates = g.L.RateList.rates c.args.list.now in
-    let from = rw c.from-january.ensures at c.loop-month.auto.month in
-    let sum = month_later rates (january c.args.year) c.loop-month.month c.loop-month.sum c.in_ok-sum.field-0 from c.loop-month.invariant.sum_so_far c.in_ok-sum.ensures in
     record {
-      sum_so_far = sum;
-      within_highest = rw sum at (sum_within rates (g.met.L.RateList.bounded c.args.list.now) (january c.args.year) (c.loop-month.month + 1 - january c.args.year));
+      at = λ xs s q x u ys fs step.
+          let added = months_added rates _ (record { 0 = c.args.list }) (λ n x q r. (search rules, search rules)) xs _ s 0 q ys fs in
+          let small : q.1 ≤ length xs * highest = subst (Within (length xs * highest)) (sym (zero_plus _) ∙ added.1) (sum_within rates (g.met.L.RateList.bounded c.args.list.now) _ (length xs)) in
+          let few : length xs < interest_months = omega (arith, added.2, added.3) in
+          let same = added.0 in
+          search rules;
     }
-
-pub returns-in_err-sum : goal.returns-in_err-sum
-returns-in_err-sum g c =
-    let rates = g.L.RateList.rates c.args.list.now in
-    let from = rw c.from-january.ensures at c.loop-month.auto.month in
-    let before = rw c.from-january.ensures at c.loop-month-test.true in
-    let value = c.from_residual.ensures ∙ no_sum rates (january c.args.year) interest_months c.loop-month.month from before c.in_err-sum.ensures in
-    record { value = value; adds_up = adds_up rates (g.met.L.RateList.bounded c.args.list.now) (january c.args.year) interest_months c.from_residual.result value }
 
 pub returns : goal.returns
 returns g c =
     let rates = g.L.RateList.rates c.args.list.now in
-    let all : c.loop-month.month - january c.args.year ≡ interest_months = omega (arith, c.from-january.ensures) in
-    let value : Some c.loop-month.sum ≡ sum_of rates (january c.args.year) interest_months = rw (← all) (sym c.loop-month.invariant.sum_so_far) in
-    record { value = value; adds_up = adds_up rates (g.met.L.RateList.bounded c.args.list.now) (january c.args.year) interest_months (Some c.loop-month.sum) value }
+    let ran = c.try_fold.ensures.ran in
+    let added = months_added rates _ (record { 0 = c.args.list }) (λ n x q r. (search rules, search rules)) ran.0 _ ran.4.0 0 (ran.2, ran.3) ran.4.1 ran.5 in
+    let value : c.try_fold.result ≡ sum_of rates (january c.args.year) interest_months =
+    months_tried rates (12 * c.from-january.result) interest_months (length ran.0) ran.3 ran.1 c.try_fold.result ran.4.0 _ _ _ (sym (zero_plus _) ∙ added.1) added.2 added.3 ran.4.2 (omega (arith, added.4 (omega arith))) (λ a. search rules) (λ x m. (search rules, search rules)) ran.6
+    ∙ ap (λ y. sum_of rates (january y) interest_months) c.from-january.ensures in
+    record { value = value; adds_up = adds_up rates (g.met.L.RateList.bounded c.args.list.now) (january c.args.year) interest_months c.try_fold.result value }
