@@ -79,7 +79,7 @@ impl<'a> FilingReader<'a> {
     }
 
     /// The next line, or nothing at the end of the file; a refusal leaves the reader where it is.
-    // No iterator: a loop goes on from where another stopped, and `?` ends either at a refusal.
+    // No iterator: its item would be a `Result`, which each loop had to take apart before it looks at the letter.
     pub(crate) fn next_record(&mut self) -> Result<Option<Record<'a>>, LineRefusal>
         ensures { Nexts self.old result self.new }
     {

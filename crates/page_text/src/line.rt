@@ -37,6 +37,7 @@ fn sum_field<F: Fn(&PageRow) -> i64>(rows: &PageRows, amount_of: F) -> Field
     requires reads { (row : _) (n : _) → F.post amount_of row n → n ≡ amount_in a (row_of row.now) }
     ensures { result ≡ in_columns 14 (sum_of (amount_in a) rows.now) }
 {
+    // A loop: the check finds by itself what it adds, and that the sum fits.
     let mut sum = 0;
     for row in rows.as_slice() {
         sum += amount_of(row);
@@ -82,6 +83,7 @@ impl Written for PageRow {
 }
 
 /// Writes the line of the sums at the start of the bytes; answers how long it is.
+// `Gives (printed ..)`: it answers the length alone, and the bytes are the caller's.
 #[tactic(auto, unfolding(crate::specs::Lines::line_text))]
 pub(crate) fn write_sums(bytes: &mut [u8], rows: &PageRows) -> usize
     requires { 69 ≤ length bytes.old }

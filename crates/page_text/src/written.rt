@@ -17,6 +17,7 @@ pub(crate) trait Written {
 }
 
 /// Writes items one after another at the start of the bytes; answers how long they are.
+// `Gives (printed ..)`: it answers the length alone, and the bytes are the caller's.
 pub(crate) fn write_all<T: Written>(bytes: &mut [u8], items: &[T]) -> usize
     requires { sum_by T.width items.now ≤ length bytes.old }
     ensures text { Gives (printed (flat_map T.text items.now) bytes.old) result bytes.new }

@@ -59,7 +59,7 @@ impl Template for AttachmentCc {
         }
     }
 
-    // No `From`: the clause of the trait ties it to the rules.
+    // No `From`: the clause of the trait ties it to the template's rules.
     fn figure(line: CcLine) -> Figure {
         match line {
             CcLine::GrossPlant => Figure::GrossPlant,

@@ -126,7 +126,7 @@ impl Template for AttachmentMm {
         }
     }
 
-    // No `From`: the clause of the trait ties it to the rules.
+    // No `From`: the clause of the trait ties it to the template's rules.
     fn figure(line: MmLine) -> Figure {
         match line {
             MmLine::GrossPlant => Figure::GrossPlant,

@@ -37,7 +37,7 @@ impl Figure {
 /// The figures entered so far, in dollars. One record serves every template.
 // By fields: of an array the contracts of a sheet do not show the length, and so not that a figure
 // reads as it was entered.
-#[derive(Clone, Copy)]
+#[derive(Clone, Copy, Default)]
 pub struct Figures {
     pub(crate) gross_plant: Option<i64>,
     pub(crate) accumulated_depreciation: Option<i64>,
@@ -57,19 +57,7 @@ impl Figures {
     pub(crate) fn blank() -> Figures
         ensures { result ≡ blank }
     {
-        Figures {
-            gross_plant: None,
-            accumulated_depreciation: None,
-            net_plant: None,
-            total_om: None,
-            transmission_om: None,
-            lse_expenses: None,
-            account_565: None,
-            general_depreciation: None,
-            other_taxes: None,
-            income_taxes: None,
-            return_on_rate_base: None,
-        }
+        Figures::default()
     }
 
     /// A figure as entered.

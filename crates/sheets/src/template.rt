@@ -56,7 +56,7 @@ pub trait Template {
     }
 
     /// The figure that a line holds.
-    // No `From`: this clause is what ties it to the template's rules.
+    // No `From`: a law would have to tie what it gives to the template's rules, as this clause does.
     fn figure(line: Self::Line) -> Figure
         ensures { result ≡ rules.figure_of line };
 

@@ -19,7 +19,8 @@ pub const LONGEST: usize = 65_536;
 
 /// Reads a filing of this template, whose first line is the T line.
 // The line and the reader, also in `read_named`: the line is asked about, and only the reader goes on.
-// `unread reader`, also in `read_named`: the contract is the one result, and the lines left are its argument.
+// `unread reader`, also in `read_named`: an argument of the one result; a model would give the lines and the number
+// back as a pair.
 fn read_sheet<T: Template>(line: Record, reader: FilingReader) -> Result<Pages<T>, LineRefusal>
     requires { (line.line ≡ 1) × (reader.lines ≡ 1) }
     ensures { result ≡ sheet_filed T.rules line.entry.bytes.now (unread reader.entry) }

@@ -30,7 +30,8 @@ fn read_figures<'a, T: Template>(
 }
 
 /// Prices the projects of the other P lines.
-// `unread reader`, also in `read_lines`: the contract is the one result, and the lines left are its argument.
+// `unread reader`, also in `read_lines`: an argument of the one result; a model would give the lines and the number
+// back as a pair.
 fn price_rest<T: Template>(
     mut reader: FilingReader,
     mut pages: Pages<T>,

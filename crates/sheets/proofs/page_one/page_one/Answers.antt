@@ -9,6 +9,7 @@ returns-then-not-factors_fit c =
     let same = told.1 in
     search rules
 
+-- the check finds it too, but not with half its limits
 pub returns : goal.returns
 returns c =
     let told = based_told _ _ _ c.in_ok-factors.ensures in

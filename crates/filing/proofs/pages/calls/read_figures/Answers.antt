@@ -24,6 +24,7 @@ project_line t before after r f n is =
     ∙ (λ i. given (before.lines + 1) (by_letter t (entering f) (letter i) (sym n.1.bytes_are_the_next_line i)))
     ∙ (λ i. then (at (sym n.1.has_the_next_number i) (project_taken t (entering f) r.bytes.now)) (λ next. from t (sym n.2.one_line_more i + 1) next (unread after)))
 
+-- the check finds it too, but not with half its limits
 pub returns-in-P : goal.returns-in-P
 returns-in-P g c =
     let line = c.in-Some.line in
