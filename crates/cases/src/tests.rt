@@ -112,28 +112,33 @@ fn negative_income_taxes_make_line_14_negative(rt: HostRuntime) -> Result<(), Fa
     Ok(())
 }
 
+/// An entry, and the number of its refusal if it is refused.
+type EntryCase = (&'static str, i64, Option<u8>);
+
 #[test]
 fn entering_asks_21_and_then_22(rt: HostRuntime) {
+    let entries: [EntryCase; 12] = [
+        ("1A", 0, Some(21)),
+        ("", 0, Some(21)),
+        ("1a ", 0, Some(21)),
+        (" 1", 0, Some(21)),
+        ("2", -1, Some(21)),
+        ("1", -1, Some(22)),
+        ("1", 0, None),
+        ("1", 10_000_000_000, None),
+        ("1", 10_000_000_001, Some(22)),
+        ("10", -10_000_000_000, None),
+        ("10", -10_000_000_001, Some(22)),
+        ("12", -1, Some(22)),
+    ];
     let mut sheet = OpenSheet::<AttachmentMm>::new();
-    assert_eq!(rt; number(sheet.enter_labelled(b"1A", 0)), Some(21));
-    assert_eq!(rt; number(sheet.enter_labelled(b"", 0)), Some(21));
-    assert_eq!(rt; number(sheet.enter_labelled(b"1a ", 0)), Some(21));
-    assert_eq!(rt; number(sheet.enter_labelled(b" 1", 0)), Some(21));
-    assert_eq!(rt; number(sheet.enter_labelled(b"2", -1)), Some(21));
-    assert_eq!(rt; number(sheet.enter_labelled(b"1", -1)), Some(22));
-    assert_eq!(rt; number(sheet.enter_labelled(b"1", 0)), None);
-    assert_eq!(rt; number(sheet.enter_labelled(b"1", 10_000_000_000)), None);
-    assert_eq!(rt;
-        number(sheet.enter_labelled(b"1", 10_000_000_001)),
-        Some(22)
-    );
+    for (label, amount, refusal) in entries {
+        assert_eq!(rt;
+            number(sheet.enter_labelled(label.as_bytes(), amount)),
+            refusal
+        );
+    }
     assert_eq!(rt; sheet.figure(Figure::GrossPlant), Some(10_000_000_000));
-    assert_eq!(rt; number(sheet.enter_labelled(b"10", -10_000_000_000)), None);
-    assert_eq!(rt;
-        number(sheet.enter_labelled(b"10", -10_000_000_001)),
-        Some(22)
-    );
-    assert_eq!(rt; number(sheet.enter_labelled(b"12", -1)), Some(22));
 }
 
 /// The number of what finishing answers with these other amounts, if it refuses.
@@ -143,14 +148,19 @@ fn finish_number(changes: &[Entry]) -> Result<Option<u8>, Refusal> {
 
 #[test]
 fn finishing_asks_every_base_and_line_3d(rt: HostRuntime) -> Result<(), Fail> {
-    assert_eq!(rt; finish_number(&[("1a", 0)])?, Some(24));
-    assert_eq!(rt; finish_number(&[("1a", 1)])?, Some(26));
-    assert_eq!(rt; finish_number(&[("1a", 1_000_000_000)])?, Some(24));
-    assert_eq!(rt; finish_number(&[("1", 0)])?, Some(24));
-    assert_eq!(rt; finish_number(&[("3a", 1_999_999)])?, Some(25));
-    assert_eq!(rt; finish_number(&[("3a", 2_000_000)])?, None);
-    assert_eq!(rt; finish_number(&[("3a", 32_000_000)])?, None);
-    assert_eq!(rt; finish_number(&[("3a", 32_000_001)])?, Some(25));
+    let changes: [EntryCase; 8] = [
+        ("1a", 0, Some(24)),
+        ("1a", 1, Some(26)),
+        ("1a", 1_000_000_000, Some(24)),
+        ("1", 0, Some(24)),
+        ("3a", 1_999_999, Some(25)),
+        ("3a", 2_000_000, None),
+        ("3a", 32_000_000, None),
+        ("3a", 32_000_001, Some(25)),
+    ];
+    for (label, amount, refusal) in changes {
+        assert_eq!(rt; finish_number(&[(label, amount)])?, refusal);
+    }
     Ok(())
 }
 
@@ -179,20 +189,28 @@ fn a_refused_finish_gives_the_sheet_back(rt: HostRuntime) -> Result<(), Fail> {
 
 #[test]
 fn pricing_asks_27_and_then_28(rt: HostRuntime) -> Result<(), Fail> {
+    let projects: [(i64, i64, i64, Option<u8>); 10] = [
+        (-1, 0, 0, Some(27)),
+        (10_000_000_001, 0, 0, Some(27)),
+        (5, 6, 0, Some(27)),
+        (5, -1, 0, Some(27)),
+        (5, 5, -1, Some(27)),
+        (0, 0, 10_000_000_001, Some(27)),
+        (10_000_000_000, 0, 10_000_000_000, Some(28)),
+        (0, 0, 0, None),
+        (0, 0, 100_000_000, None),
+        (0, 0, 100_000_001, Some(28)),
+    ];
     let sheet = finished(sheet_of::<AttachmentMm>(&MM_FIGURES)?)?;
-    assert_eq!(rt; number(price(&sheet, -1, 0, 0)), Some(27));
-    assert_eq!(rt; number(price(&sheet, 10_000_000_001, 0, 0)), Some(27));
-    assert_eq!(rt; number(price(&sheet, 5, 6, 0)), Some(27));
-    assert_eq!(rt; number(price(&sheet, 5, -1, 0)), Some(27));
-    assert_eq!(rt; number(price(&sheet, 5, 5, -1)), Some(27));
-    assert_eq!(rt; number(price(&sheet, 0, 0, 10_000_000_001)), Some(27));
-    assert_eq!(rt;
-        number(price(&sheet, 10_000_000_000, 0, 10_000_000_000)),
-        Some(28)
-    );
-    assert_eq!(rt; number(price(&sheet, 0, 0, 0)), None);
-    assert_eq!(rt; number(price(&sheet, 0, 0, 100_000_000)), None);
-    assert_eq!(rt; number(price(&sheet, 0, 0, 100_000_001)), Some(28));
+    for (gross_plant, accumulated_depreciation, depreciation_expense, refusal) in projects {
+        let answer = price(
+            &sheet,
+            gross_plant,
+            accumulated_depreciation,
+            depreciation_expense,
+        );
+        assert_eq!(rt; number(answer), refusal);
+    }
     Ok(())
 }
 
