@@ -1,1 +1,4 @@
 pub mod Journal
+pub mod Refusals
+pub mod Calls
+pub mod Table

@@ -1,3 +1,11 @@
-//! What a journal of kilowatt-hours means: which it holds for a participant and a month, and for which
-//! pairs it has a place. The journals themselves are still to come.
+//! Journals: the kilowatt-hours held under each pair of a participant and a month, and the pairs that
+//! have a place. The trait, and two journals over a run that is handed in.
 #![tactic(auto)]
+
+mod journal;
+mod refusal;
+mod table_journal;
+
+pub use journal::{Journal, MOST_KWH};
+pub use refusal::Refusal;
+pub use table_journal::TableJournal;
