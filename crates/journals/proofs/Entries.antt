@@ -3,7 +3,7 @@ use Rattle.std.proofs.Common.{◌≡◌, ◌∙◌, ℕ, zero, suc, ◌+◌, ◌
 use Rattle.std.specs.List.{count_by, find, position, position_or_len}
 use Rattle.std.specs.Option.{option_map, option_or}
 use Rattle.std.proofs.Math.ListN.{set, get_or, replicate}
-use Rattle.std.proofs.lemmas.Bool.{both_ways, and_from, and_parts, and_right, cases_Bool, lt-ltb, ltb-true, ltb-false, not-true, eq-eqb}
+use Rattle.std.proofs.lemmas.Bool.{both_ways, and_from, and_left, and_parts, and_right, cases_Bool, lt-ltb, ltb-true, ltb-false, not-true, eq-eqb}
 use Rattle.std.proofs.lemmas.Bool.Decides.{nat_tests}
 use Rattle.std.proofs.lemmas.Option.{cond_some, none-some, slice_get-get_or, slice_get_past}
 use Rattle.std.proofs.lemmas.List.Folds.{find_at, find_past}
@@ -11,8 +11,9 @@ use Rattle.std.proofs.lemmas.List.Sums.{sum_by-cons, sum_by-set, fails_before_fi
 use Rattle.std.proofs.lemmas.List.Quantifiers.{position-Some}
 use Rattle.journals.specs.Journal.{most, Pair, in_range, same_pair, holding}
 use Rattle.journals.specs.Calls.{Same}
-use Rattle.journals.specs.Entries.{pair_of, used, unused, is_of, held_among, unused_among, places_among, spot_among}
+use Rattle.journals.specs.Entries.{pair_of, used, unused, is_of, held_among, unused_among, places_among, spot_among, SpotFor}
 use Rattle.journals.specs.EntryLaws.{same_pairs, place_in_range}
+use Rattle.journals.proofs.Puts.{then_look}
 use Rattle.journals.specs.declared.entry_journal.Entry.{Entry}
 
 -- the first that passes, after one that passes is written
@@ -22,9 +23,15 @@ module _ {X : Type 0} (p : X → Bool) (y d : X) (passes : p y ≡ true) where
   find_written (x ∷ xs) zero within before = rw passes
   find_written (x ∷ xs) (suc i) within before = rw (before 0 (omega arith)) (find_written xs i (omega arith) (λ k short. before (suc k) (omega arith)))
 
-pub find_replicate : {X : Type 0} (p : X → Bool) (n : ℕ) (x : X) → p x ≡ false → find p (replicate n x) ≡ None
+find_replicate : {X : Type 0} (p : X → Bool) (n : ℕ) (x : X) → p x ≡ false → find p (replicate n x) ≡ None
 find_replicate p zero x fails = refl
 find_replicate p (suc n) x fails = rw fails (find_replicate p n x fails)
+
+-- entries that are all blank hold nothing
+pub blanks_hold_nothing : (n : ℕ) (q : Pair) → held_among (replicate n (record { participant = 0; month = 0; kwh = 0 })) q ≡ None
+blanks_hold_nothing n q =
+    let blank : Entry = record { participant = 0; month = 0; kwh = 0 } in
+    rw (find_replicate (is_of q) n blank (and_right (same_pair q (pair_of blank)) false refl))
 
 past_all : {X : Type 0} (p : X → Bool) (xs : List X) → position p xs ≡ None → length xs ≤ position_or_len p xs
 past_all p xs none = ⊎_elim
@@ -45,6 +52,7 @@ is_apart p q e apart of = grind (arith, nat_tests)
 
 -- what a put leaves of a run, where it writes an entry at its spot
 pub record Written (es : List Entry) (pair : Pair) (new : Entry) (spot : ℕ) : Type 0 where
+  pub within : spot < length es
   pub placed : places_among es pair ≡ true
   pub holds : Same (holding (held_among es) pair new.kwh) (held_among (set es spot new))
   pub unused_left : unused_among (set es spot new) ≡ cond (is_some (held_among es pair)) (unused_among es) (unused_among es - 1)
@@ -75,6 +83,7 @@ module _ (es : List Entry) (pair : Pair) (new : Entry) (of : is_of pair new ≡ 
       let held : is_some (held_among es pair) ≡ true =
       rw (find_at (is_of pair) es, slice_get-get_or es (position_or_len (is_of pair) es) new (ltb-true (position_or_len (is_of pair) es) (length es) place.0)) in
       record {
+        within = at.0;
         placed = rw held;
         holds = holds_written i at.0 at.2 (λ q apart. is_apart pair q (get_or es i new) apart at.1);
         unused_left = let sum = counted_after i at.0 in rw held (omega (arith, rw old at sum));
@@ -89,6 +98,7 @@ module _ (es : List Entry) (pair : Pair) (new : Entry) (of : is_of pair new ≡ 
       let free : nat_lt 0 (unused_among es) ≡ true = lt-ltb 0 (unused_among es) (omega (arith, sum)) in
       let ranged : in_range pair ≡ true = rw (same_pairs pair (pair_of new) fits.0) ((and_parts (in_range (pair_of new)) (nat_le new.kwh most) fits.1).0) in
       record {
+        within = at.0;
         placed = rw (none_of es pair none, ranged, free);
         holds = holds_written i at.0
             (λ k short. fails_before_first (is_of pair) es k new (omega (arith, past_all (is_of pair) es none)))
@@ -100,7 +110,7 @@ module _ (es : List Entry) (pair : Pair) (new : Entry) (of : is_of pair new ≡ 
   by_spot None none i spot = filled i none spot
   by_spot (Some j) found i spot = replaced i (found ∙ spot)
 
-  pub written : (i : ℕ) → spot_among es pair ≡ Some i → Written es pair new i
+  written : (i : ℕ) → spot_among es pair ≡ Some i → Written es pair new i
   written = by_spot (position (is_of pair) es) refl
 
 module _ (es : List Entry) (pair : Pair) (d : Entry) where
@@ -111,7 +121,7 @@ module _ (es : List Entry) (pair : Pair) (d : Entry) where
   by_no_spot (Some j) found full = absurd (none-some j (sym full))
 
   -- without a spot there is no place
-  pub no_place : spot_among es pair ≡ None → places_among es pair ≡ false
+  no_place : spot_among es pair ≡ None → places_among es pair ≡ false
   no_place = by_no_spot (position (is_of pair) es) refl
 
 -- what could not be held has no place
@@ -121,9 +131,16 @@ unfit es pair out = ⊎_elim
     (λ (none : places_among es pair ≡ false). none)
     (cases_Bool (places_among es pair))
 
--- a put writes the entry of its pair and its number
-pub puts : (es : List Entry) (participant month kwh i : ℕ) → in_range (participant, month) ≡ true → nat_le kwh most ≡ true
-    → spot_among es (participant, month) ≡ Some i → Written es (participant, month) (record { participant = participant; month = month; kwh = kwh }) i
-puts es participant month kwh i ranged within spot =
-    written es (participant, month) (record { participant = participant; month = month; kwh = kwh })
-    (and_from _ _ (and_from _ _ (eq-eqb participant participant refl) (eq-eqb month month refl)) (and_from _ _ ranged within)) i spot
+pub spot_for : (es : List Entry) (pair : Pair) (kwh : ℕ) → in_range pair ≡ true → nat_le kwh most ≡ true → (spot : Option ℕ) → spot ≡ spot_among es pair → SpotFor es pair kwh spot
+spot_for es pair kwh ranged fits None is = and_left (places_among es pair) (nat_le kwh most) (no_place es pair (record { participant = 0; month = 0; kwh = 0 }) (sym is))
+spot_for es pair kwh ranged fits (Some i) is =
+    let new : Entry = record { participant = pair.0; month = pair.1; kwh = kwh } in
+    let w = written es pair new (and_from _ _ (and_from _ _ (eq-eqb pair.0 pair.0 refl) (eq-eqb pair.1 pair.1 refl)) (and_from _ _ ranged fits)) i (sym is) in
+    record {
+      within = w.within;
+      ranged = ranged;
+      accepted = and_from (places_among es pair) (nat_le kwh most) w.placed fits;
+      holds = w.holds;
+      then_look = then_look (held_among es) (held_among (set es i new)) pair kwh w.holds;
+      unused_left = w.unused_left;
+    }

@@ -1,9 +1,9 @@
 -- The entry journal: a run of entries, each with a pair and a number, or unused.
-use Rattle.std.specs.Prelude.{◌≡◌, ◌↔◌, ℕ, ◌-◌, ◌<◌, Bool, cond, ◌&&◌, ◌||◌, not, List, length, Option, IsTrue, is_some, nat_le, nat_lt, vec_items}
+use Rattle.std.specs.Prelude.{◌≡◌, ◌↔◌, ℕ, ◌-◌, ◌<◌, Bool, cond, ◌&&◌, ◌||◌, not, false, List, length, Ok, Option, slice_set, IsTrue, is_some, nat_le, nat_lt, vec_items}
 use Rattle.std.specs.List.{count_by, find, position}
-use Rattle.std.specs.Option.{option_map, option_or}
-use Rattle.journals.specs.Journal.{most, Pair, in_range, same_pair, Held}
-use Rattle.journals.specs.Calls.{Places}
+use Rattle.std.specs.Option.{MatchOption, option_map, option_or}
+use Rattle.journals.specs.Journal.{most, Pair, in_range, same_pair, Held, holding}
+use Rattle.journals.specs.Calls.{Places, Same, accepts, PutThenLook}
 use Rattle.journals.specs.declared.entry_journal.Entry.{Entry}
 use Rattle.journals.specs.declared.entry_journal.EntryJournal.{EntryJournal}
 
@@ -34,6 +34,19 @@ places_among entries q = is_some (held_among entries q) || (in_range q && nat_lt
 -- where a put writes: at the first entry of the pair, or else at the first unused one
 abbrev pub spot_among : List Entry → Pair → Option ℕ
 spot_among entries q = option_or (position (is_of q) entries) (position unused entries)
+
+-- what a put leaves of a run, where it is accepted and writes at a spot
+pub record PutAt (entries : List Entry) (q : Pair) (kwh spot : ℕ) : Type 0 where
+  pub within : spot < length entries
+  pub ranged : IsTrue (in_range q)
+  pub accepted : IsTrue (accepts (places_among entries) q kwh)
+  pub holds : Same (holding (held_among entries) q kwh) (held_among (slice_set entries spot (record { participant = q.0; month = q.1; kwh = kwh })))
+  pub then_look : PutThenLook (held_among entries) q kwh (Ok tt) (held_among (slice_set entries spot (record { participant = q.0; month = q.1; kwh = kwh })))
+  pub unused_left : unused_among (slice_set entries spot (record { participant = q.0; month = q.1; kwh = kwh })) ≡ cond (is_some (held_among entries q)) (unused_among entries) (unused_among entries - 1)
+
+-- the spot of a put: none where it is refused
+abbrev pub SpotFor : List Entry → Pair → ℕ → Option ℕ → Type 0
+SpotFor entries q kwh spot = MatchOption spot (accepts (places_among entries) q kwh ≡ false) (λ i. PutAt entries q kwh i)
 
 abbrev pub entries_held : EntryJournal → Held
 entries_held j = held_among (vec_items j.entries)

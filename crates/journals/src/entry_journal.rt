@@ -1,5 +1,5 @@
 ghost use Rattle.std.specs.Prelude.{◌≡◌, vec_items};
-ghost use Rattle.journals.specs.Entries.{used, unused, is_of, held_among, places_among, spot_among, entries_held, entries_place, EntryPut, EntriesWiped};
+ghost use Rattle.journals.specs.Entries.{used, unused, is_of, held_among, places_among, spot_among, SpotFor, entries_held, entries_place, EntryPut, EntriesWiped};
 ghost use Rattle.std.specs.List.{position};
 ghost use Rattle.journals.specs.EntryLaws.{entries_lawful};
 
@@ -51,7 +51,17 @@ impl EntryJournal {
         EntryJournal { entries }
     }
 
-    /// Where a put writes: at the first entry of the pair, or else at the first unused one.
+    /// Where a put of this number writes, if it is accepted.
+    fn spot_for(&self, participant: u32, month: u32, kwh: u64) -> Option<usize>
+        ensures { SpotFor (vec_items self.now.entries) (participant, month) kwh result }
+    {
+        if !in_range(participant, month) || kwh > MOST_KWH {
+            return None;
+        }
+        self.spot(participant, month)
+    }
+
+    /// Where a pair in range is written: at its first entry, or else at the first unused one.
     fn spot(&self, participant: u32, month: u32) -> Option<usize>
         ensures { result ≡ spot_among (vec_items self.now.entries) (participant, month) }
     {
@@ -95,10 +105,7 @@ impl Journal for EntryJournal {
     }
 
     fn put(&mut self, participant: u32, month: u32, kwh: u64) -> Result<(), Refusal> {
-        if !in_range(participant, month) || kwh > MOST_KWH {
-            return Err(Refusal::NoPlace);
-        }
-        let Some(spot) = self.spot(participant, month) else {
+        let Some(spot) = self.spot_for(participant, month, kwh) else {
             return Err(Refusal::NoPlace);
         };
         self.entries[spot] = Entry {
@@ -109,6 +116,7 @@ impl Journal for EntryJournal {
         Ok(())
     }
 
+    #[tactic(auto, using(crate::proofs::Entries::blanks_hold_nothing))]
     fn wipe(&mut self) {
         self.entries.fill(Entry::UNUSED);
     }
