@@ -3,7 +3,7 @@
 
 #[cfg(test)]
 mod tests {
-    use journals::{Journal, MOST_KWH, Refusal, TableJournal};
+    use journals::{Entry, EntryJournal, Journal, MOST_KWH, Refusal, TableJournal};
     use std::test::Fail;
 
     const NONE: u64 = u64::MAX;
@@ -69,6 +69,69 @@ mod tests {
         assert_eq!(rt; table.look(1, 3), Some(2));
         assert_eq!(rt; table.look(1, 5), Some(4));
         assert_eq!(rt; Refusal::NoPlace.number(), 12);
+        Ok(())
+    }
+
+    fn entry(participant: u32, month: u8, kwh: u64) -> Entry {
+        Entry {
+            participant,
+            month,
+            kwh,
+        }
+    }
+
+    #[test]
+    fn entries_take_the_last_place_and_refuse_the_next(rt: HostRuntime) -> Result<(), Fail> {
+        let mut none = EntryJournal::new(vec![in rt.alloc()]?);
+        assert_eq!(rt; none.put(1, 1, 1), Err(Refusal::NoPlace));
+        let mut two = EntryJournal::new(vec![in rt.alloc(); Entry::UNUSED; 2]?);
+        assert_eq!(rt; two.put(65_535, 12, 0), Ok(()));
+        assert_eq!(rt; two.put(1, 1, MOST_KWH + 1), Err(Refusal::NoPlace));
+        assert_eq!(rt; two.put(65_536, 1, 1), Err(Refusal::NoPlace));
+        assert_eq!(rt; two.put(1, 13, 1), Err(Refusal::NoPlace));
+        assert_eq!(rt; two.put(1, 257, 1), Err(Refusal::NoPlace));
+        assert_eq!(rt; two.put(1, 1, MOST_KWH), Ok(()));
+        assert_eq!(rt; two.put(1, 2, 1), Err(Refusal::NoPlace));
+        assert_eq!(rt; two.put(1, 1, 3), Ok(()));
+        for (participant, month, kwh) in [(65_535, 12, Some(0)), (1, 1, Some(3)), (1, 2, None)] {
+            assert_eq!(rt; two.look(participant, month), kwh);
+        }
+        Ok(())
+    }
+
+    #[test]
+    fn first_entry_of_a_pair_counts(rt: HostRuntime) -> Result<(), Fail> {
+        let mut journal = EntryJournal::new(vec![in rt.alloc();
+            entry(0, 1, 1),
+            entry(1, 1, 5),
+            entry(1, 1, 6),
+            entry(2, 13, 7),
+            entry(2, 1, MOST_KWH + 1),
+        ]?);
+        for (participant, month, kwh) in [
+            (0, 1, None),
+            (1, 1, Some(5)),
+            (2, 13, None),
+            (2, 1, None),
+        ] {
+            assert_eq!(rt; journal.look(participant, month), kwh);
+        }
+        assert_eq!(rt; journal.put(1, 1, 9), Ok(()));
+        assert_eq!(rt; journal.look(1, 1), Some(9));
+        for (participant, answer) in [
+            (3, Ok(())),
+            (4, Ok(())),
+            (5, Ok(())),
+            (6, Err(Refusal::NoPlace)),
+        ] {
+            assert_eq!(rt; journal.put(participant, 1, 2), answer);
+        }
+        journal.wipe();
+        for participant in 1..6 {
+            assert_eq!(rt; journal.look(participant, 1), None);
+            assert_eq!(rt; journal.put(participant, 1, 4), Ok(()));
+        }
+        assert_eq!(rt; journal.put(6, 1, 4), Err(Refusal::NoPlace));
         Ok(())
     }
 }
