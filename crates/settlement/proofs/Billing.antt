@@ -4,8 +4,8 @@ use Rattle.std.proofs.lemmas.Int.{ints}
 use Rattle.journals.specs.Journal.{Pair, same_pair}
 use Rattle.settlement.specs.declared.state.State.{State}
 use Rattle.settlement.specs.declared.state.State.TheVariants.{Draft, Posted}
-use Rattle.settlement.specs.Rules.{unsigned}
-use Rattle.settlement.specs.Billing.{bill_questions, billed, change_to, charge_at, entered_book, pair_of, resettle_questions, resettled}
+use Rattle.settlement.specs.Rules.{pair_of, unsigned}
+use Rattle.settlement.specs.Billing.{bill_questions, billed, change_to, charge_at, entered_book, resettle_questions, resettled}
 use Rattle.settlement.specs.Books.{BookView, is_posted, rate_of}
 use Rattle.settlement.specs.Outcomes.{Gives}
 use Rattle.settlement.specs.Tally.{Tally, note_reading}

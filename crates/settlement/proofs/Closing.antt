@@ -5,11 +5,13 @@ use Rattle.std.proofs.lemmas.Bool.{and_parts}
 use Rattle.std.specs.Option.{option_map}
 use Rattle.rates.specs.Factor.{sum_of}
 use Rattle.rates.specs.Rates.{january}
+use Rattle.settlement.specs.declared.figures.Figures.{Figures}
 use Rattle.settlement.specs.declared.state.State.{State}
 use Rattle.settlement.specs.declared.state.State.TheVariants.{Draft, Posted}
-use Rattle.settlement.specs.Rules.{Figures, Terms, cents, column_16, difference, figures, interest, interest_scale, nothing_due, settled, share, sum_over}
+use Rattle.settlement.specs.Rules.{Terms, cents, column_16, difference, figures, interest, interest_scale, nothing_due, settled, share, sum_over}
 use Rattle.settlement.specs.Books.{BookView, RowView, all_rows, column_of, is_posted, sum_of_paid, total_of}
-use Rattle.settlement.specs.Closing.{Lists, close_questions, closed, closed_book, closed_row, figures_of, has_its_share, terms_at}
+use Rattle.settlement.specs.Closing.{close_questions, closed, closed_book, closed_row, figures_of, has_its_share}
+use Rattle.settlement.specs.Lists.{Lists, terms_at}
 use Rattle.settlement.specs.Balance.{EachRow, InterestIsFair, difference_in, interest_borne}
 use Rattle.settlement.specs.Outcomes.{Gives}
 use Rattle.settlement.specs.Tally.{Tally, actual_in, closed_actuals, money_left, next_year, tally_figures, tally_share, total}

@@ -2,9 +2,10 @@
 use Rattle.std.proofs.Common.{◌≡◌, ℕ, ◌+◌, ◌<◌, ◌≤◌, true, false, List, [], ◌∷◌, ℤ, pos, ◌+ℤ◌, nat_abs, ◌<ℤ◌, None, sym, refl, ap, ◌∙◌, arith}
 use Rattle.std.proofs.lemmas.Int.{ints}
 use Rattle.journals.specs.Journal.{Pair}
+use Rattle.settlement.specs.declared.account.Account.{Account}
 use Rattle.settlement.specs.declared.state.State.{State}
 use Rattle.settlement.specs.declared.state.State.TheVariants.{Draft, Posted}
-use Rattle.settlement.specs.Rules.{Account, cents, column_16, nothing_due, outstanding, share, sum_over}
+use Rattle.settlement.specs.Rules.{cents, column_16, nothing_due, outstanding, share, sum_over}
 use Rattle.settlement.specs.Books.{BookView, RowView, column_of, has_row, is_draft, is_posted, rate_of, sum_of_paid, total_of}
 use Rattle.settlement.specs.Balance.{ChargesEqualPaymentsPlusTill, EachRow}
 use Rattle.settlement.specs.Drafting.{opened}

@@ -1,8 +1,9 @@
 -- Dollars noted for a project with a row: in the tally, on its row, and on no other.
 use Rattle.std.proofs.Common.{◌≡◌, ℕ, true, false, eqb, List, ℤ, ◌+ℤ◌, Some, sym, refl, ap, ◌∙◌, arith}
 use Rattle.std.proofs.lemmas.Bool.{and_from, and_left, and_right, both_ways, cond-false, cond-true, eq-eqb, ne_eqb}
+use Rattle.settlement.specs.declared.account.Filed.{Filed}
 use Rattle.settlement.specs.Rules.{sum_over}
-use Rattle.settlement.specs.Books.{BookView, Filed, RowView, has_row, on_row, sum_of_paid, with_filed}
+use Rattle.settlement.specs.Books.{BookView, RowView, has_row, on_row, sum_of_paid, with_filed}
 use Rattle.settlement.specs.Tally.{Filings, Notes, Past, Tally, with_note}
 use Rattle.settlement.proofs.Invariants.{MeteredAgrees, NoneLater, RowAgrees, RowsAgree}
 use Rattle.settlement.proofs.Rows.{distinct_on_row, each_on_row, has_on_row, projects_on_row, sum_on_row}

@@ -4,11 +4,12 @@ use Rattle.journals.specs.Journal.{Pair}
 use Rattle.rates.specs.Factor.{interest_months}
 use Rattle.settlement.specs.declared.state.State.TheVariants.{Posted}
 use Rattle.settlement.specs.Balance.{EachRow, LifetimeAddsUp, SharesArePaid}
-use Rattle.settlement.specs.Rules.{outstanding, unsigned}
+use Rattle.settlement.specs.Rules.{outstanding, pair_of, unsigned}
 use Rattle.settlement.specs.Books.{BookView, RowView, with_state}
-use Rattle.settlement.specs.Billing.{bill_questions, change_to, charge_at, entered_book, pair_of, resettle_questions}
+use Rattle.settlement.specs.Billing.{bill_questions, change_to, charge_at, entered_book, resettle_questions}
 use Rattle.settlement.specs.Calls.{Call, file, post, bill, resettle, pay, state, close, fed}
-use Rattle.settlement.specs.Closing.{close_questions, closed_book, figures_of, terms_at}
+use Rattle.settlement.specs.Closing.{close_questions, closed_book, figures_of}
+use Rattle.settlement.specs.Lists.{terms_at}
 use Rattle.settlement.specs.Conservation.{Conservation, NoCentIsMadeOrLost}
 use Rattle.settlement.specs.Counting.{count, tally}
 use Rattle.settlement.specs.Drafting.{file_questions, filed_book, opened, post_questions, rate_for}

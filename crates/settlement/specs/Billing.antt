@@ -3,16 +3,13 @@ use Rattle.std.specs.Prelude.{ℕ, Bool, not, ◌&&◌, List, [], ◌∷◌, ℤ
 use Rattle.std.specs.Option.{unwrap_or}
 use Rattle.journals.specs.Journal.{Pair, holding}
 use Rattle.settlement.specs.declared.refusal.Refusal.TheVariants.{ReadingOutOfRange, NotPosted, AlreadyHeld, MoneyOutOfRange, NoPlace, NotHeld}
-use Rattle.settlement.specs.Rules.{charge, charge_scale, unsigned}
+use Rattle.settlement.specs.Rules.{charge, charge_scale, pair_of, unsigned}
 use Rattle.settlement.specs.Books.{BookView, is_posted, rate_of, with_held, with_money}
 use Rattle.settlement.specs.Outcomes.{Outcome, Question, ask, asked, done, in_money, within}
 
 -- participant, month and kilowatt-hours
 abbrev pub reading_in_range : ℤ → ℤ → ℤ → Bool
 reading_in_range participant month kwh = (within (pos 1) (pos 65535) participant && within (pos 1) (pos 12) month) && within (pos 0) (pos 10000000000) kwh
-
-abbrev pub pair_of : ℤ → ℤ → Pair
-pair_of participant month = (unsigned participant, unsigned month)
 
 -- the charge at the posted rate
 abbrev pub charge_at : BookView → ℕ → ℤ

@@ -1,14 +1,11 @@
 -- A book as its reader sees it: the year, its state, the money, a row for each project, and what the journal holds.
-use Rattle.std.specs.Prelude.{ℕ, Bool, true, false, cond, ◌&&◌, ◌||◌, List, [], ◌∷◌, ◌++◌, ℤ, pos, ◌-ℤ◌, Some, None, Option, ◌==◌}
+use Rattle.std.specs.Prelude.{ℕ, Bool, true, false, cond, ◌&&◌, ◌||◌, List, [], ◌∷◌, ◌++◌, ℤ, pos, ◌-ℤ◌, Some, None, ◌==◌}
 use Rattle.journals.specs.Journal.{Held}
+use Rattle.settlement.specs.declared.account.Account.{Account}
+use Rattle.settlement.specs.declared.account.Filed.{Filed}
 use Rattle.settlement.specs.declared.state.State.{State}
 use Rattle.settlement.specs.declared.state.State.TheVariants.{Draft, Posted}
-use Rattle.settlement.specs.Rules.{Account, nothing_due, column_16, sum_over}
-
--- what is filed and stated for the year, in dollars
-pub record Filed : Type 0 where
-  pub requirement : Option ℤ
-  pub actual : Option ℤ
+use Rattle.settlement.specs.Rules.{nothing_due, column_16, sum_over}
 
 abbrev pub nothing_filed : Filed
 nothing_filed = record { requirement = None; actual = None }

@@ -1,7 +1,7 @@
 -- The seven calls, each with its arguments and its answer, and what the tally is told of them.
 use Rattle.std.specs.Prelude.{Bool, ℤ, is_ok, Some, None, Ok, Err, Option, Result}
 use Rattle.settlement.specs.declared.refusal.Refusal.{Refusal}
-use Rattle.settlement.specs.Closing.{Lists}
+use Rattle.settlement.specs.Lists.{Lists}
 
 abbrev pub Answer : Type 0 → Type 0
 Answer A = Result A Refusal

@@ -1,26 +1,14 @@
 -- Close: the figures of every row, and then the closing with them.
-use Rattle.std.specs.Prelude.{ℕ, ◌+◌, Bool, List, [], ◌∷◌, map, ℤ, pos, neg_ℤ, is_some, Option, nat_le}
-use Rattle.std.specs.Option.{option_map, unwrap_or}
-use Rattle.rates.specs.Factor.{sum_of}
-use Rattle.rates.specs.Rates.{Rates, january}
+use Rattle.std.specs.Prelude.{ℕ, ◌+◌, Bool, List, [], ◌∷◌, map, ℤ, pos, neg_ℤ, is_some, nat_le}
+use Rattle.std.specs.Option.{unwrap_or}
+use Rattle.settlement.specs.declared.figures.Figures.{Figures}
 use Rattle.settlement.specs.declared.refusal.Refusal.TheVariants.{NotPosted, NotStated, NotPaid, LastYear, RateMissing, TrueUpOutOfRange}
 use Rattle.settlement.specs.declared.state.State.TheVariants.{Draft}
-use Rattle.settlement.specs.Rules.{Figures, Terms, figures, settled}
+use Rattle.settlement.specs.Lists.{Lists, terms_at, terms_of}
+use Rattle.settlement.specs.Rules.{Terms, figures, settled}
 use Rattle.settlement.specs.Books.{BookView, RowView, all_rows, is_posted, nothing_filed, nothing_held, till, total_of, with_account, with_filed, with_held, with_money, with_paid, with_rows, with_state, with_year}
 use Rattle.settlement.specs.Outcomes.{Outcome, Question, ask, asked, done, equal, within}
 use Rattle.settlement.specs.Paying.{share_of}
-
--- the rate lists that a close takes, by their meaning
-pub record Lists : Type 0 where
-  pub rates : Rates
-
--- one factor for every difference: the sum of the rates of so many months from January of the year, where each has one
-abbrev pub terms_of : ℕ → Lists → ℕ → Option Terms
-terms_of months lists year = option_map (λ factor owed. factor) (sum_of lists.rates (january year) months)
-
--- the terms where there are any; without them a close is refused
-abbrev pub terms_at : ℕ → Lists → ℕ → Terms
-terms_at months lists year = unwrap_or (terms_of months lists year) (λ owed. 0)
 
 abbrev pub figures_of : Terms → RowView → Figures
 figures_of terms r = figures terms (unwrap_or r.filed.actual (pos 0)) r.account r.paid

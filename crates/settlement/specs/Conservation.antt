@@ -4,7 +4,7 @@ use Rattle.journals.specs.Journal.{Pair}
 use Rattle.settlement.specs.Balance.{ChargesEqualPaymentsPlusTill, EachRow, InterestIsFair, LifetimeAddsUp, SharesArePaid}
 use Rattle.settlement.specs.Books.{BookView}
 use Rattle.settlement.specs.Calls.{Call, close, pay}
-use Rattle.settlement.specs.Closing.{Lists}
+use Rattle.settlement.specs.Lists.{Lists}
 use Rattle.settlement.specs.Counting.{tally}
 use Rattle.settlement.specs.Drafting.{opened}
 use Rattle.settlement.specs.Runs.{Run}

@@ -1,10 +1,9 @@
 -- How the tally counts a run of calls.
 use Rattle.std.specs.Prelude.{ℕ, true, false, List, [], ◌∷◌, map, Some, None}
 use Rattle.rates.specs.Factor.{interest_months}
-use Rattle.settlement.specs.Billing.{pair_of}
 use Rattle.settlement.specs.Calls.{Call, Fed, fed, fed_file, fed_post, fed_bill, fed_resettle, fed_pay, fed_state, fed_close}
-use Rattle.settlement.specs.Closing.{terms_at}
-use Rattle.settlement.specs.Rules.{unsigned}
+use Rattle.settlement.specs.Lists.{terms_at}
+use Rattle.settlement.specs.Rules.{pair_of, unsigned}
 use Rattle.settlement.specs.Tally.{Tally, next_year, note_actual, note_payment, note_rate, note_reading, note_requirement, nothing_noted}
 
 -- a refused call leaves the tally alone

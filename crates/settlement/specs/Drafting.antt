@@ -1,8 +1,9 @@
 -- The calls on a draft: opening a book, filing requirements and posting the usage rate. The number of each question stands beside it.
 use Rattle.std.specs.Prelude.{ℕ, Bool, ◌&&◌, ◌||◌, List, [], ◌∷◌, length, ℤ, pos, is_some, Some, nat_le, nat_lt}
+use Rattle.settlement.specs.declared.account.Account.{Account}
 use Rattle.settlement.specs.declared.refusal.Refusal.TheVariants.{ProjectNumberOutOfRange, NotDraft, NoRoomForARow, RequirementOutOfRange, NotFiled, ForecastOutOfRange, UsageRateOutOfRange}
 use Rattle.settlement.specs.declared.state.State.TheVariants.{Draft, Posted}
-use Rattle.settlement.specs.Rules.{Account, column_16, rate_scale, unsigned, usage_rate}
+use Rattle.settlement.specs.Rules.{column_16, rate_scale, unsigned, usage_rate}
 use Rattle.settlement.specs.Books.{BookView, RowView, all_rows, has_row, is_draft, nothing_held, on_row, row_on, total_of, with_filed, with_requirement, with_row_for, with_rows, with_state}
 use Rattle.settlement.specs.Outcomes.{Outcome, Question, ask, asked, done, in_dollars, is_project, within}
 

@@ -1,5 +1,6 @@
 pub mod Refusals
 pub mod Rules
+pub mod Lists
 pub mod Books
 pub mod Outcomes
 pub mod Drafting

@@ -1,9 +1,11 @@
--- Looking at a project's row, and stating what a project has spent.
-use Rattle.std.specs.Prelude.{ℕ, List, [], ◌∷◌, ℤ}
+-- Looking at a book and at a project's row, and stating what a project has spent.
+use Rattle.std.specs.Prelude.{ℕ, List, [], ◌∷◌, length, ℤ, Option, slice_get}
+use Rattle.std.specs.Option.{option_map}
 use Rattle.settlement.specs.declared.refusal.Refusal.TheVariants.{ProjectNumberOutOfRange, NotPosted, NoRow, ActualOutOfRange}
 use Rattle.settlement.specs.declared.row_answer.RowAnswer.{RowAnswer}
+use Rattle.settlement.specs.declared.standing.Standing.{Standing}
 use Rattle.settlement.specs.Rules.{unsigned}
-use Rattle.settlement.specs.Books.{BookView, RowView, has_row, is_posted, on_row, row_on, with_actual, with_filed, with_rows}
+use Rattle.settlement.specs.Books.{BookView, RowView, has_row, is_posted, on_row, row_on, till, with_actual, with_filed, with_rows}
 use Rattle.settlement.specs.Outcomes.{Outcome, Question, ask, asked, done, in_dollars, is_project}
 
 abbrev pub answer_of : RowView → RowAnswer
@@ -16,6 +18,14 @@ answer_of r = record {
   requirement = r.filed.requirement;
   actual = r.filed.actual;
 }
+
+-- where a book stands
+abbrev pub standing_of : BookView → Standing
+standing_of b = record { year = b.year; state = b.state; money = b.money; till = till b; rows = length b.rows }
+
+-- the row at a position, counted from 0
+abbrev pub row_at : BookView → ℕ → Option RowAnswer
+row_at b position = option_map answer_of (slice_get b.rows position)
 
 abbrev pub look_questions : BookView → ℤ → List Question
 look_questions b project =

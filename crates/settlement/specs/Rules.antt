@@ -1,11 +1,17 @@
 -- The rules, over plain numbers: dollars, cents and rates are whole numbers, signed where they can fall below zero.
 use Rattle.std.specs.Prelude.{ℕ, List, [], ◌∷◌, ℤ, pos, negsuc, ◌+ℤ◌, ◌-ℤ◌, ◌*ℤ◌, Some, None, Option}
 use Rattle.amounts.specs.Rounding.{rounded, rounded_down}
+use Rattle.settlement.specs.declared.account.Account.{Account}
+use Rattle.settlement.specs.declared.figures.Figures.{Figures}
 
 -- a number of 0 or more, as a count; below 0 there is nothing to count
 abbrev pub unsigned : ℤ → ℕ
 unsigned (pos n) = n
 unsigned (negsuc n) = 0
+
+-- the pair under which a journal holds, and the tally notes, kilowatt-hours
+abbrev pub pair_of : ℤ → ℤ → ℕ × ℕ
+pair_of participant month = (unsigned participant, unsigned month)
 
 abbrev pub sum_over : {X : Type 0} → (X → ℤ) → List X → ℤ
 sum_over amount [] = pos 0
@@ -14,12 +20,6 @@ sum_over amount (x ∷ xs) = amount x +ℤ sum_over amount xs
 -- dollars in cents
 abbrev pub cents : ℤ → ℤ
 cents dollars = pos 100 *ℤ dollars
-
--- a project's true-ups due this year and next year, in dollars, and the cents that whole dollars left over
-pub record Account : Type 0 where
-  pub due_now : ℤ
-  pub due_next : ℤ
-  pub kept : ℤ
 
 abbrev pub nothing_due : Account
 nothing_due = record { due_now = pos 0; due_next = pos 0; kept = pos 0 }
@@ -73,13 +73,6 @@ charge_scale = 100000
 
 abbrev pub interest_scale : ℕ
 interest_scale = 10000000
-
--- a project's year as a close works it out
-pub record Figures : Type 0 where
-  pub difference : ℤ
-  pub interest : ℤ
-  pub true_up : ℤ
-  pub kept : ℤ
 
 abbrev pub figures_on : Terms → ℤ → ℤ → Figures
 figures_on terms owed kept =

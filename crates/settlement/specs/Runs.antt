@@ -3,13 +3,14 @@ use Rattle.std.specs.Prelude.{Bool, List, [], ◌∷◌}
 use Rattle.journals.specs.Journal.{Pair}
 use Rattle.rates.specs.Factor.{interest_months}
 use Rattle.settlement.specs.Books.{BookView}
-use Rattle.settlement.specs.Billing.{billed, pair_of, resettled}
+use Rattle.settlement.specs.Billing.{billed, resettled}
 use Rattle.settlement.specs.Calls.{Call, file, post, bill, resettle, pay, state, close}
 use Rattle.settlement.specs.Closing.{closed}
 use Rattle.settlement.specs.Drafting.{filed, posted}
 use Rattle.settlement.specs.Looking.{stated}
 use Rattle.settlement.specs.Outcomes.{Gives}
 use Rattle.settlement.specs.Paying.{paid}
+use Rattle.settlement.specs.Rules.{pair_of}
 
 -- one call takes a book to the next, as its outcome says
 abbrev pub Step : {B : Type 0} → (B → BookView) → (B → Pair → Bool) → Call → B → B → Type 0

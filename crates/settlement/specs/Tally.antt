@@ -2,7 +2,9 @@
 use Rattle.std.specs.Prelude.{ℕ, ◌+◌, Bool, false, cond, ◌&&◌, ◌||◌, List, [], ◌∷◌, ◌++◌, ℤ, pos, ◌+ℤ◌, ◌-ℤ◌, Some, None, Option, ◌==◌}
 use Rattle.std.specs.Option.{unwrap_or}
 use Rattle.journals.specs.Journal.{Pair, same_pair}
-use Rattle.settlement.specs.Rules.{Account, Figures, Terms, charge, charge_scale, column_16, figures, nothing_due, settled, share, sum_over}
+use Rattle.settlement.specs.declared.account.Account.{Account}
+use Rattle.settlement.specs.declared.figures.Figures.{Figures}
+use Rattle.settlement.specs.Rules.{Terms, charge, charge_scale, column_16, figures, nothing_due, settled, share, sum_over}
 
 -- kilowatt-hours noted for a year and a pair
 pub record Reading : Type 0 where

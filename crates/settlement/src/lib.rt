@@ -4,10 +4,16 @@
 //! the book.
 #![tactic(auto)]
 
+mod account;
+mod figures;
 mod refusal;
 mod row_answer;
+mod standing;
 mod state;
 
+pub use account::{Account, Filed};
+pub use figures::Figures;
 pub use refusal::Refusal;
 pub use row_answer::RowAnswer;
+pub use standing::Standing;
 pub use state::State;

@@ -7,7 +7,7 @@ use Rattle.settlement.specs.declared.refusal.Refusal.TheVariants.{RequirementOut
 use Rattle.settlement.specs.declared.state.State.TheVariants.{Draft, Posted}
 use Rattle.settlement.specs.Billing.{resettled}
 use Rattle.settlement.specs.Books.{BookView, nothing_held}
-use Rattle.settlement.specs.Closing.{terms_at}
+use Rattle.settlement.specs.Lists.{terms_at}
 use Rattle.settlement.specs.Drafting.{filed}
 use Rattle.settlement.specs.Outcomes.{done, refused}
 use Rattle.settlement.specs.Paying.{paid}

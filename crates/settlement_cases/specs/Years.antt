@@ -6,7 +6,7 @@ use Rattle.settlement.specs.declared.state.State.{State}
 use Rattle.settlement.specs.declared.state.State.TheVariants.{Draft}
 use Rattle.settlement.specs.Books.{BookView, RowView, nothing_held}
 use Rattle.settlement.specs.Calls.{Call, file, post, bill, resettle, pay, state, close}
-use Rattle.settlement.specs.Closing.{Lists}
+use Rattle.settlement.specs.Lists.{Lists}
 use Rattle.settlement.specs.Balance.{difference_in}
 use Rattle.settlement.specs.Counting.{tally}
 use Rattle.settlement.specs.Drafting.{opened}
