@@ -3,13 +3,13 @@ use Rattle.std.proofs.Common.{◌≡◌, ℕ, ◌+◌, ◌≤◌, true, List, []
 use Rattle.std.proofs.lemmas.Int.{ints}
 use Rattle.std.proofs.lemmas.Bool.{and_parts}
 use Rattle.std.specs.Option.{option_map}
+use Rattle.std.specs.List.{list_all}
 use Rattle.rates.specs.Factor.{sum_of}
 use Rattle.rates.specs.Rates.{january}
-use Rattle.settlement.specs.declared.figures.Figures.{Figures}
 use Rattle.settlement.specs.declared.state.State.{State}
 use Rattle.settlement.specs.declared.state.State.TheVariants.{Draft, Posted}
-use Rattle.settlement.specs.Rules.{Terms, cents, column_16, difference, figures, interest, interest_scale, nothing_due, settled, share, sum_over}
-use Rattle.settlement.specs.Books.{BookView, RowView, all_rows, column_of, is_posted, sum_of_paid, total_of}
+use Rattle.settlement.specs.Rules.{Figures, Terms, cents, column_16, difference, figures, interest, interest_scale, nothing_due, settled, share, sum_over}
+use Rattle.settlement.specs.Books.{BookView, RowView, column_of, is_posted, sum_of_paid, total_of}
 use Rattle.settlement.specs.Closing.{close_questions, closed, closed_book, closed_row, figures_of, has_its_share}
 use Rattle.settlement.specs.Lists.{Lists, terms_at}
 use Rattle.settlement.specs.Balance.{EachRow, InterestIsFair, difference_in, interest_borne}
@@ -26,10 +26,10 @@ use Rattle.settlement.proofs.Shares.{share_of_nothing}
 use Rattle.settlement.proofs.Sums.{sum_map, sum_plus}
 
 -- question 17, row by row
-each_has_its_share : (money total : ℤ) (rows : List RowView) → all_rows (has_its_share money total) rows ≡ true → EachRow (Shared money total) rows
+pub each_has_its_share : (money total : ℤ) (rows : List RowView) → list_all (has_its_share money total) rows ≡ true → EachRow (Shared money total) rows
 each_has_its_share money total [] e = tt
 each_has_its_share money total (r ∷ rs) e =
-    let parts = and_parts (has_its_share money total r) (all_rows (has_its_share money total) rs) e in
+    let parts = and_parts (has_its_share money total r) (list_all (has_its_share money total) rs) e in
     (equal_is r.paid (share money total (column_of r)) parts.0, each_has_its_share money total rs parts.1)
 
 within_year : (s : State) (year : ℕ) → first_free s year ≤ year + 1
@@ -124,7 +124,7 @@ lifetimes_closed t terms l = record {
   kept_small = λ p. kept_within_fifty (((tally_figures t terms p).difference +ℤ (tally_figures t terms p).interest) +ℤ (t.past.accounts p).kept);
 }
 
-sound_closed : (t : Tally) (b : BookView) (terms : Terms) → Sound t b → is_posted b.state ≡ true → all_rows (has_its_share b.money (total_of b.rows)) b.rows ≡ true → Sound (next_year terms t) (closed_book (figures_of terms) b)
+sound_closed : (t : Tally) (b : BookView) (terms : Terms) → Sound t b → is_posted b.state ≡ true → list_all (has_its_share b.money (total_of b.rows)) b.rows ≡ true → Sound (next_year terms t) (closed_book (figures_of terms) b)
 sound_closed t b terms s posted paid =
     let k = s.rows in
     let above = s.total_above (posted_is_not_draft b.state posted) in

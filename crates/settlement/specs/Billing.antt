@@ -7,9 +7,13 @@ use Rattle.settlement.specs.Rules.{charge, charge_scale, pair_of, unsigned}
 use Rattle.settlement.specs.Books.{BookView, is_posted, rate_of, with_held, with_money}
 use Rattle.settlement.specs.Outcomes.{Outcome, Question, ask, asked, done, in_money, within}
 
+-- participant and month
+abbrev pub pair_in_range : ℤ → ℤ → Bool
+pair_in_range participant month = within (pos 1) (pos 65535) participant && within (pos 1) (pos 12) month
+
 -- participant, month and kilowatt-hours
 abbrev pub reading_in_range : ℤ → ℤ → ℤ → Bool
-reading_in_range participant month kwh = (within (pos 1) (pos 65535) participant && within (pos 1) (pos 12) month) && within (pos 0) (pos 10000000000) kwh
+reading_in_range participant month kwh = pair_in_range participant month && within (pos 0) (pos 10000000000) kwh
 
 -- the charge at the posted rate
 abbrev pub charge_at : BookView → ℕ → ℤ

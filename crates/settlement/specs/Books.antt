@@ -1,5 +1,5 @@
 -- A book as its reader sees it: the year, its state, the money, a row for each project, and what the journal holds.
-use Rattle.std.specs.Prelude.{ℕ, Bool, true, false, cond, ◌&&◌, ◌||◌, List, [], ◌∷◌, ◌++◌, ℤ, pos, ◌-ℤ◌, Some, None, ◌==◌}
+use Rattle.std.specs.Prelude.{ℕ, Bool, true, false, cond, ◌||◌, List, [], ◌∷◌, ◌++◌, ℤ, pos, ◌-ℤ◌, Some, None, ◌==◌}
 use Rattle.journals.specs.Journal.{Held}
 use Rattle.settlement.specs.declared.account.Account.{Account}
 use Rattle.settlement.specs.declared.account.Filed.{Filed}
@@ -62,10 +62,6 @@ on_row project change (r ∷ rs) = cond (r.project == project) (change r ∷ rs)
 -- rows stand in the order of first filing
 abbrev pub with_row_for : ℕ → List RowView → List RowView
 with_row_for project rows = cond (has_row project rows) rows (rows ++ new_row project ∷ [])
-
-abbrev pub all_rows : (RowView → Bool) → List RowView → Bool
-all_rows test [] = true
-all_rows test (r ∷ rs) = test r && all_rows test rs
 
 abbrev pub is_draft : State → Bool
 is_draft Draft = true

@@ -1,13 +1,14 @@
 -- Close: the figures of every row, and then the closing with them.
 use Rattle.std.specs.Prelude.{ℕ, ◌+◌, Bool, List, [], ◌∷◌, map, ℤ, pos, neg_ℤ, is_some, nat_le}
 use Rattle.std.specs.Option.{unwrap_or}
-use Rattle.settlement.specs.declared.figures.Figures.{Figures}
+use Rattle.std.specs.Ordering.{int_eq}
+use Rattle.std.specs.List.{list_all}
 use Rattle.settlement.specs.declared.refusal.Refusal.TheVariants.{NotPosted, NotStated, NotPaid, LastYear, RateMissing, TrueUpOutOfRange}
 use Rattle.settlement.specs.declared.state.State.TheVariants.{Draft}
 use Rattle.settlement.specs.Lists.{Lists, terms_at, terms_of}
-use Rattle.settlement.specs.Rules.{Terms, figures, settled}
-use Rattle.settlement.specs.Books.{BookView, RowView, all_rows, is_posted, nothing_filed, nothing_held, till, total_of, with_account, with_filed, with_held, with_money, with_paid, with_rows, with_state, with_year}
-use Rattle.settlement.specs.Outcomes.{Outcome, Question, ask, asked, done, equal, within}
+use Rattle.settlement.specs.Rules.{Figures, Terms, figures, settled}
+use Rattle.settlement.specs.Books.{BookView, RowView, is_posted, nothing_filed, nothing_held, till, total_of, with_account, with_filed, with_held, with_money, with_paid, with_rows, with_state, with_year}
+use Rattle.settlement.specs.Outcomes.{Outcome, Question, ask, asked, done, within}
 use Rattle.settlement.specs.Paying.{share_of}
 
 abbrev pub figures_of : Terms → RowView → Figures
@@ -17,7 +18,7 @@ abbrev pub is_stated : RowView → Bool
 is_stated r = is_some r.filed.actual
 
 abbrev pub has_its_share : ℤ → ℤ → RowView → Bool
-has_its_share money total r = equal r.paid (share_of money total r)
+has_its_share money total r = int_eq r.paid (share_of money total r)
 
 abbrev pub is_true_up : ℤ → Bool
 is_true_up dollars = within (neg_ℤ (pos 100000000)) (pos 100000000) dollars
@@ -28,11 +29,11 @@ last_closing_year = 65534
 abbrev pub close_questions : ℕ → BookView → Lists → List Question
 close_questions months b lists =
     ask (is_posted b.state) NotPosted  -- 9
-    ∷ ask (all_rows is_stated b.rows) NotStated  -- 16
-    ∷ ask (all_rows (has_its_share b.money (total_of b.rows)) b.rows) NotPaid  -- 17
+    ∷ ask (list_all is_stated b.rows) NotStated  -- 16
+    ∷ ask (list_all (has_its_share b.money (total_of b.rows)) b.rows) NotPaid  -- 17
     ∷ ask (nat_le b.year last_closing_year) LastYear  -- 18
     ∷ ask (is_some (terms_of months lists b.year)) RateMissing  -- 19
-    ∷ ask (all_rows (λ r. is_true_up (figures_of (terms_at months lists b.year) r).true_up) b.rows) TrueUpOutOfRange  -- 20
+    ∷ ask (list_all (λ r. is_true_up (figures_of (terms_at months lists b.year) r).true_up) b.rows) TrueUpOutOfRange  -- 20
     ∷ []
 
 abbrev pub closed_row : (RowView → Figures) → RowView → RowView

@@ -1,10 +1,11 @@
 -- The calls on a draft: opening a book, filing requirements and posting the usage rate. The number of each question stands beside it.
 use Rattle.std.specs.Prelude.{ℕ, Bool, ◌&&◌, ◌||◌, List, [], ◌∷◌, length, ℤ, pos, is_some, Some, nat_le, nat_lt}
+use Rattle.std.specs.List.{list_all}
 use Rattle.settlement.specs.declared.account.Account.{Account}
 use Rattle.settlement.specs.declared.refusal.Refusal.TheVariants.{ProjectNumberOutOfRange, NotDraft, NoRoomForARow, RequirementOutOfRange, NotFiled, ForecastOutOfRange, UsageRateOutOfRange}
 use Rattle.settlement.specs.declared.state.State.TheVariants.{Draft, Posted}
 use Rattle.settlement.specs.Rules.{column_16, rate_scale, unsigned, usage_rate}
-use Rattle.settlement.specs.Books.{BookView, RowView, all_rows, has_row, is_draft, nothing_held, on_row, row_on, total_of, with_filed, with_requirement, with_row_for, with_rows, with_state}
+use Rattle.settlement.specs.Books.{BookView, RowView, has_row, is_draft, nothing_held, on_row, row_on, total_of, with_filed, with_requirement, with_row_for, with_rows, with_state}
 use Rattle.settlement.specs.Outcomes.{Outcome, Question, ask, asked, done, in_dollars, is_project, within}
 
 -- open: a draft with no rows and no money, and a journal that holds nothing
@@ -39,7 +40,7 @@ filed b project requirement = asked b (file_questions b project requirement) (do
 
 -- there are rows, and each is filed this year
 abbrev pub all_filed : List RowView → Bool
-all_filed rows = nat_le 1 (length rows) && all_rows (λ r. is_some r.filed.requirement) rows
+all_filed rows = nat_le 1 (length rows) && list_all (λ r. is_some r.filed.requirement) rows
 
 -- a forecast in megawatt-hours
 abbrev pub is_forecast : ℤ → Bool

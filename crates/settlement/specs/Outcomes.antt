@@ -35,9 +35,6 @@ asked b (q ∷ qs) o = cond q.holds (asked b qs o) (refused q.otherwise b)
 abbrev pub within : ℤ → ℤ → ℤ → Bool
 within low high x = int_le low x && int_le x high
 
-abbrev pub equal : ℤ → ℤ → Bool
-equal x y = int_le x y && int_le y x
-
 abbrev pub is_project : ℤ → Bool
 is_project number = within (pos 1) (pos 99999999) number
 

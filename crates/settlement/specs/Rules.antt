@@ -2,7 +2,6 @@
 use Rattle.std.specs.Prelude.{ℕ, List, [], ◌∷◌, ℤ, pos, negsuc, ◌+ℤ◌, ◌-ℤ◌, ◌*ℤ◌, Some, None, Option}
 use Rattle.amounts.specs.Rounding.{rounded, rounded_down}
 use Rattle.settlement.specs.declared.account.Account.{Account}
-use Rattle.settlement.specs.declared.figures.Figures.{Figures}
 
 -- a number of 0 or more, as a count; below 0 there is nothing to count
 abbrev pub unsigned : ℤ → ℕ
@@ -73,6 +72,13 @@ charge_scale = 100000
 
 abbrev pub interest_scale : ℕ
 interest_scale = 10000000
+
+-- a project's year as a close works it out
+pub record Figures : Type 0 where
+  pub difference : ℤ
+  pub interest : ℤ
+  pub true_up : ℤ
+  pub kept : ℤ
 
 abbrev pub figures_on : Terms → ℤ → ℤ → Figures
 figures_on terms owed kept =

@@ -3,8 +3,7 @@ use Rattle.std.specs.Prelude.{ℕ, ◌+◌, Bool, false, cond, ◌&&◌, ◌||�
 use Rattle.std.specs.Option.{unwrap_or}
 use Rattle.journals.specs.Journal.{Pair, same_pair}
 use Rattle.settlement.specs.declared.account.Account.{Account}
-use Rattle.settlement.specs.declared.figures.Figures.{Figures}
-use Rattle.settlement.specs.Rules.{Terms, charge, charge_scale, column_16, figures, nothing_due, settled, share, sum_over}
+use Rattle.settlement.specs.Rules.{Figures, Terms, charge, charge_scale, column_16, figures, nothing_due, settled, share, sum_over}
 
 -- kilowatt-hours noted for a year and a pair
 pub record Reading : Type 0 where

@@ -5,14 +5,12 @@
 #![tactic(auto)]
 
 mod account;
-mod figures;
 mod refusal;
 mod row_answer;
 mod standing;
 mod state;
 
 pub use account::{Account, Filed};
-pub use figures::Figures;
 pub use refusal::Refusal;
 pub use row_answer::RowAnswer;
 pub use standing::Standing;

@@ -1,4 +1,5 @@
 ghost use Rattle.std.specs.Prelude.{◌≡◌};
+ghost use Rattle.settlement.specs.declared.refusal.Refusal.TheVariants.{NoPlace};
 ghost use Rattle.settlement.specs.Refusals.{number_of};
 
 use std::error::Error;
@@ -35,6 +36,15 @@ impl Refusal {
         ensures { result ≡ number_of self }
     {
         self as u8
+    }
+}
+
+// a journal refuses a number only where its pair has no place
+impl From<journals::Refusal> for Refusal {
+    ghost from_gives = { λ _ refusal. refusal ≡ NoPlace };
+
+    fn from(_why: journals::Refusal) -> Refusal {
+        Refusal::NoPlace
     }
 }
 
