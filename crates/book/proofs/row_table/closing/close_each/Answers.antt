@@ -1,6 +1,6 @@
 use Rattle.std.proofs.Common.{◌<◌, arith, length}
 use Rattle.book.proofs.Closed.{one_more_closed}
-use Rattle.book.proofs.row_table.close_each.Goals as goal
+use Rattle.book.proofs.row_table.closing.close_each.Goals as goal
 
 pub loop-place-preserved : goal.loop-place-preserved
 loop-place-preserved c =

@@ -1,6 +1,6 @@
 use Rattle.std.proofs.Common.{◌≡◌, ◌++◌, take, drop, map}
 use Rattle.settlement.specs.Paying.{with_share}
-use Rattle.book.proofs.row_table.pay_each.Given as goal
+use Rattle.book.proofs.row_table.paying.pay_each.Given as goal
 
 -- the rows before this one are paid, the others are as they were
 abbrev pub invariant-loop-row : goal.invariant-loop-row

@@ -1,7 +1,7 @@
 use Rattle.std.proofs.Common.{◌≡◌, ◌≤◌, true, length, take, map}
 use Rattle.std.specs.List.{list_all}
 use Rattle.settlement.specs.Closing.{figures_of, is_true_up}
-use Rattle.book.proofs.row_table.figures_of.Given as goal
+use Rattle.book.proofs.row_table.closing.figures_of.Given as goal
 
 -- the figures of the rows before this one are worked, and their true-ups are in range
 abbrev pub invariant-loop-place : goal.invariant-loop-place
