@@ -1,3 +1,4 @@
+pub mod Asking
 pub mod Rows
 pub mod Tables
 pub mod Views

@@ -201,18 +201,15 @@ impl Row {
     pub(crate) fn close_with(&mut self, figures: &Figures)
         ensures { self.new ≡ closed_row (λ r. figures.now) self.old }
     {
-        *self = Row {
-            project: self.project,
-            account: Account {
-                due_now: self.account.due_next,
-                due_next: figures.true_up,
-                kept: figures.kept,
-            },
-            filed: Filed {
-                requirement: None,
-                actual: None,
-            },
-            paid: 0,
+        self.account = Account {
+            due_now: self.account.due_next,
+            due_next: figures.true_up,
+            kept: figures.kept,
         };
+        self.filed = Filed {
+            requirement: None,
+            actual: None,
+        };
+        self.paid = 0;
     }
 }

@@ -4,12 +4,13 @@ mod looking;
 mod paying;
 mod places;
 
-ghost use Rattle.std.specs.Prelude.{◌+ℤ◌, get_or, pos, ◌-ℤ◌, IsTrue, ℕ, ◌≤ℤ◌, ◌≡◌, ◌<◌, ◌≤◌, ℤ, [], unsigned_abs, length, IfErr, IfOk, true, false};
+ghost use Rattle.std.specs.Prelude.{⊤, ◌+ℤ◌, get_or, pos, ◌-ℤ◌, IsTrue, ℕ, ◌≤ℤ◌, ◌≡◌, ◌<◌, ◌≤◌, ℤ, [], unsigned_abs, length, IfErr, IfOk, true, false};
 ghost use Rattle.settlement.specs.declared.refusal.Refusal.TheVariants.{MoneyOutOfRange, NotDraft, NotPosted};
 ghost use Rattle.settlement.specs.Books.{RowView, column_of, sum_of_paid, total_of, is_draft, is_posted, rate_of};
 ghost use Rattle.settlement.specs.declared.state.State.TheVariants.{Draft};
 ghost use Rattle.settlement.specs.Drafting.{posted};
 ghost use Rattle.settlement.specs.Outcomes.{in_money};
+ghost use Rattle.book.specs.Asking.{Asks};
 
 use crate::row::Row;
 use crate::rules;
@@ -56,8 +57,7 @@ impl RowTable {
 
     /// A draft, or question 2.
     fn draft(&self) -> Result<(), Refusal>
-        ensures draft { IfOk result (λ _. is_draft self.now.state ≡ true) }
-        ensures refused { IfErr result (λ why. (is_draft self.now.state ≡ false) × (why ≡ NotDraft)) }
+        ensures { Asks (is_draft self.now.state) NotDraft (λ _. ⊤) result }
     {
         match self.state {
             State::Draft => Ok(()),
@@ -67,8 +67,7 @@ impl RowTable {
 
     /// The posted rate, or question 9.
     pub(crate) fn rate(&self) -> Result<i64, Refusal>
-        ensures posted { IfOk result (λ rate. (is_posted self.now.state ≡ true) × (rate ≡ rate_of self.now.state) × (unsigned_abs rate ≤ 1000000)) }
-        ensures refused { IfErr result (λ why. (is_posted self.now.state ≡ false) × (why ≡ NotPosted)) }
+        ensures { Asks (is_posted self.now.state) NotPosted (λ rate. (rate ≡ rate_of self.now.state) × (unsigned_abs rate ≤ 1000000)) result }
     {
         match self.state {
             State::Draft => Err(Refusal::NotPosted),
@@ -79,8 +78,7 @@ impl RowTable {
     /// The money after a change, or question 11.
     pub(crate) fn money_after(&self, change: i64) -> Result<i64, Refusal>
         requires { unsigned_abs change ≤ 2000000000000 }
-        ensures money { IfOk result (λ money. (in_money (self.now.money +ℤ change) ≡ true) × (money ≡ self.now.money +ℤ change)) }
-        ensures refused { IfErr result (λ why. (in_money (self.now.money +ℤ change) ≡ false) × (why ≡ MoneyOutOfRange)) }
+        ensures { Asks (in_money (self.now.money +ℤ change)) MoneyOutOfRange (λ money. money ≡ self.now.money +ℤ change) result }
     {
         let money = self.money + change;
         if !rules::in_money(money) {

@@ -1,4 +1,4 @@
-ghost use Rattle.std.specs.Prelude.{take, pos, IsTrue, map, ◌≤ℤ◌, ◌≡◌, ◌≤◌, ℤ, length, IfNone, IfSome, IfErr, IfOk, true, false};
+ghost use Rattle.std.specs.Prelude.{⊤, take, pos, IsTrue, map, ◌≤ℤ◌, ◌≡◌, ◌≤◌, ℤ, length, IfNone, IfSome, IfErr, IfOk, true, false};
 ghost use Rattle.std.specs.List.{list_all};
 ghost use Rattle.settlement.specs.declared.refusal.Refusal.TheVariants.{NotPaid, NotStated};
 ghost use Rattle.settlement.specs.Books.{sum_of_paid, total_of};
@@ -8,6 +8,7 @@ ghost use Rattle.settlement.specs.Looking.{stated};
 ghost use Rattle.settlement.specs.Outcomes.{in_money};
 ghost use Rattle.settlement.specs.Paying.{paid};
 ghost use Rattle.book.specs.Tables.{TableCloses, closed_at_rates, closed_rows, closed_table};
+ghost use Rattle.book.specs.Asking.{Asks};
 
 use crate::figures::Figures;
 use crate::row::Row;
@@ -87,8 +88,7 @@ impl RowTable {
 
     /// Question 16.
     fn each_is_stated(&self) -> Result<(), Refusal>
-        ensures stated { IfOk result (λ _. list_all is_stated self.now.rows ≡ true) }
-        ensures refused { IfErr result (λ why. (list_all is_stated self.now.rows ≡ false) × (why ≡ NotStated)) }
+        ensures { Asks (list_all is_stated self.now.rows) NotStated (λ _. ⊤) result }
     {
         if !are_stated(self.in_use()) {
             return Err(Refusal::NotStated);
@@ -99,8 +99,7 @@ impl RowTable {
     /// Question 17.
     #[tactic(auto, using(crate::proofs::Closed::paid_within_money))]
     fn each_has_its_share(&self) -> Result<(), Refusal>
-        ensures paid { IfOk result (λ _. (list_all (has_its_share self.now.money (total_of self.now.rows)) self.now.rows ≡ true) × (sum_of_paid self.now.rows ≤ℤ self.now.money)) }
-        ensures refused { IfErr result (λ why. (list_all (has_its_share self.now.money (total_of self.now.rows)) self.now.rows ≡ false) × (why ≡ NotPaid)) }
+        ensures { Asks (list_all (has_its_share self.now.money (total_of self.now.rows)) self.now.rows) NotPaid (λ _. sum_of_paid self.now.rows ≤ℤ self.now.money) result }
     {
         if !have_their_shares(self.in_use(), self.money, self.total()) {
             return Err(Refusal::NotPaid);

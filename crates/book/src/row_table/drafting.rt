@@ -1,4 +1,4 @@
-ghost use Rattle.std.specs.Prelude.{is_some, ◌≡◌, IfErr, IfOk, true, false};
+ghost use Rattle.std.specs.Prelude.{⊤, is_some, ◌≡◌, IfErr, IfOk, true, false};
 ghost use Rattle.std.specs.List.{list_all};
 ghost use Rattle.settlement.specs.declared.refusal.Refusal.TheVariants.{ForecastOutOfRange, UsageRateOutOfRange};
 ghost use Rattle.settlement.specs.Books.{total_of};
@@ -6,6 +6,7 @@ ghost use Rattle.settlement.specs.Drafting.{filed, all_filed, is_forecast, is_us
 ghost use Rattle.std.specs.NonZero.{non_zero_u64_get};
 ghost use Rattle.settlement.specs.Rules.{rate_scale, unsigned, usage_rate};
 ghost use Rattle.book.specs.Tables.{TableGives, filed_row};
+ghost use Rattle.book.specs.Asking.{Asks};
 
 use crate::row_table::RowTable;
 use crate::row_table::places::project_number;
@@ -15,8 +16,7 @@ use std::num::NonZeroU64;
 
 /// A forecast in megawatt-hours, or question 6.
 fn forecast_in_range(forecast: i64) -> Result<NonZeroU64, Refusal>
-    ensures forecast { IfOk result (λ megawatt_hours. (is_forecast forecast ≡ true) × (non_zero_u64_get megawatt_hours ≡ unsigned forecast)) }
-    ensures refused { IfErr result (λ why. (is_forecast forecast ≡ false) × (why ≡ ForecastOutOfRange)) }
+    ensures { Asks (is_forecast forecast) ForecastOutOfRange (λ megawatt_hours. non_zero_u64_get megawatt_hours ≡ unsigned forecast) result }
 {
     if !(1..=1_000_000_000).contains(&forecast) {
         return Err(Refusal::ForecastOutOfRange);
@@ -59,8 +59,7 @@ impl RowTable {
 
     /// The usage rate for a forecast, or question 7.
     fn rate_for(&self, forecast: NonZeroU64) -> Result<i64, Refusal>
-        ensures rate { IfOk result (λ rate. (is_usage_rate (usage_rate rate_scale (total_of self.now.rows) (non_zero_u64_get forecast)) ≡ true) × (rate ≡ usage_rate rate_scale (total_of self.now.rows) (non_zero_u64_get forecast))) }
-        ensures refused { IfErr result (λ why. (is_usage_rate (usage_rate rate_scale (total_of self.now.rows) (non_zero_u64_get forecast)) ≡ false) × (why ≡ UsageRateOutOfRange)) }
+        ensures { Asks (is_usage_rate (usage_rate rate_scale (total_of self.now.rows) (non_zero_u64_get forecast))) UsageRateOutOfRange (λ rate. rate ≡ usage_rate rate_scale (total_of self.now.rows) (non_zero_u64_get forecast)) result }
     {
         let rate = rules::usage_rate(self.total(), forecast);
         if !(1..=1_000_000).contains(&rate) {

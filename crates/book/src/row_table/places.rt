@@ -1,4 +1,4 @@
-ghost use Rattle.std.specs.Prelude.{◌≡◌, ◌<◌, ◌≤◌, length, IfErr, IfOk, nat_lt, true, false};
+ghost use Rattle.std.specs.Prelude.{⊤, ◌≡◌, ◌<◌, ◌≤◌, length, IfErr, IfOk, nat_lt, true, false};
 ghost use Rattle.std.specs.List.{position};
 ghost use Rattle.settlement.specs.declared.refusal.Refusal.TheVariants.{NoRoomForARow, NoRow, ProjectNumberOutOfRange};
 ghost use Rattle.settlement.specs.Books.{has_row, row_on};
@@ -6,6 +6,7 @@ ghost use Rattle.settlement.specs.Drafting.{has_room};
 ghost use Rattle.settlement.specs.Outcomes.{is_project};
 ghost use Rattle.settlement.specs.Rules.{unsigned};
 ghost use Rattle.book.specs.Tables.{StandsAt, with_the_rows, written};
+ghost use Rattle.book.specs.Asking.{Asks};
 
 use crate::row::Row;
 use crate::row_table::{MOST_ROWS, RowTable};
@@ -13,8 +14,7 @@ use settlement::Refusal;
 
 /// A project number, or question 1.
 pub(crate) fn project_number(project: i64) -> Result<u32, Refusal>
-    ensures number { IfOk result (λ number. (is_project project ≡ true) × (number ≡ unsigned project)) }
-    ensures refused { IfErr result (λ why. (is_project project ≡ false) × (why ≡ ProjectNumberOutOfRange)) }
+    ensures { Asks (is_project project) ProjectNumberOutOfRange (λ number. number ≡ unsigned project) result }
 {
     if !(1..=99_999_999).contains(&project) {
         return Err(Refusal::ProjectNumberOutOfRange);
@@ -63,8 +63,7 @@ impl RowTable {
 
     /// Where the project's row stands, and the row; or question 3.
     pub(crate) fn row_or_room(&self, project: u32) -> Result<(usize, Row), Refusal>
-        ensures row { IfOk result (λ at. (has_room project self.now.rows ≡ true) × (at.1 ≡ row_on project self.now.rows) × (at.0 < 64) × StandsAt project self.now.rows at.0 at.1) }
-        ensures refused { IfErr result (λ why. (has_room project self.now.rows ≡ false) × (why ≡ NoRoomForARow)) }
+        ensures { Asks (has_room project self.now.rows) NoRoomForARow (λ at. (at.1 ≡ row_on project self.now.rows) × (at.0 < 64) × StandsAt project self.now.rows at.0 at.1) result }
     {
         let (place, row) = self.row_of(project);
         if place >= MOST_ROWS {
@@ -75,8 +74,7 @@ impl RowTable {
 
     /// Where the project's row stands, and the row; or question 14.
     pub(crate) fn row_there(&self, project: u32) -> Result<(usize, Row), Refusal>
-        ensures row { IfOk result (λ at. (has_row project self.now.rows ≡ true) × (at.1 ≡ row_on project self.now.rows) × (at.0 < 64) × StandsAt project self.now.rows at.0 at.1) }
-        ensures refused { IfErr result (λ why. (has_row project self.now.rows ≡ false) × (why ≡ NoRow)) }
+        ensures { Asks (has_row project self.now.rows) NoRow (λ at. (at.1 ≡ row_on project self.now.rows) × (at.0 < 64) × StandsAt project self.now.rows at.0 at.1) result }
     {
         let (place, row) = self.row_of(project);
         if place >= self.count {
