@@ -9,11 +9,13 @@ from here:
     python3 reference/reference.py cases              a table of filings, each behind its name and length
     python3 reference/reference.py answers < CASES    what `filing_cases` prints for such a table
     python3 reference/reference.py random SEED COUNT  the same kind of table, made at random
+    python3 reference/reference.py law SEED COUNT     calls made at random on books, with the law checked after each
 """
 
 import sys
 
 from filings import LINES, answers, enter, filing_cases, finish, framed, pages, price, random_cases
+from law import random_runs
 from rules import Refused
 
 
@@ -245,6 +247,9 @@ def main():
         print(answers(sys.stdin.buffer.read()), end="")
     elif len(words) == 3 and words[0] == "random":
         binary.write(framed(random_cases(int(words[1]), int(words[2]))))
+    elif len(words) == 3 and words[0] == "law":
+        for line in random_runs(int(words[1]), int(words[2])):
+            print(line)
     else:
         sys.exit(__doc__)
 

@@ -1,0 +1,301 @@
+"""The tally of a run of calls, the law that it has with the book, and runs made at random."""
+
+import random
+from collections import Counter, defaultdict
+
+from book import Book, EntryJournal, TableJournal
+from rules import Refused, charge, difference, factor, flat, holding, interest, quarterly, settled, share
+
+# --- the tally ------------------------------------------------------------------------------
+
+
+class Tally:
+    """What the accepted calls noted, and what the rules make of it. It never sees a book."""
+
+    def __init__(self, year):
+        self.year = year
+        self.projects = []
+        self.readings = {}  # by year, participant and month
+        self.rates = {}  # by year
+        self.requirements = {}  # by year and project
+        self.actuals = {}  # by year and project
+        self.payments = 0
+        # what the closed years left, by project
+        self.closed_years = []
+        self.due_now = defaultdict(int)
+        self.due_next = defaultdict(int)
+        self.kept = defaultdict(int)
+        self.receipts = defaultdict(int)
+        self.interest = defaultdict(int)
+        self.closings = {}  # difference and interest of each project in the latest close
+
+    def charges(self):
+        return sum(charge(kwh, self.rates[year]) for (year, _, _), kwh in self.readings.items())
+
+    def money(self):
+        """The charges that no project received in a closed year."""
+        return self.charges() - sum(self.receipts[project] for project in self.projects)
+
+    def column_16(self, project):
+        filed = (self.year, project) in self.requirements
+        return self.requirements[self.year, project] + self.due_now[project] if filed else 0
+
+    def total(self):
+        return sum(map(self.column_16, self.projects))
+
+    def actual_in(self, year, project):
+        return self.actuals.get((year, project), 0)
+
+    def closed_actuals(self, project):
+        return sum(self.actual_in(year, project) for year in self.closed_years)
+
+    def told(self, name, arguments, answer):
+        """Told of an accepted call: its arguments, and the answer of a post or a pay."""
+        note = getattr(self, f"note_{name}")
+        note(*arguments, answer) if name in ANSWER_IS_TOLD else note(*arguments)
+
+    def note_file(self, project, requirement):
+        if project not in self.projects:
+            self.projects.append(project)
+        self.requirements[self.year, project] = requirement
+
+    def note_post(self, _forecast, rate):
+        self.rates[self.year] = rate
+
+    def note_bill(self, participant, month, kwh):
+        self.readings[self.year, participant, month] = kwh
+
+    note_resettle = note_bill
+
+    def note_pay(self, answer):
+        self.payments += answer[0]
+
+    def note_state(self, project, actual):
+        self.actuals[self.year, project] = actual
+
+    def note_look(self, _project):
+        """A look notes nothing."""
+
+    def note_close(self, rates):
+        by_factor, money, total = factor(rates, self.year), self.money(), self.total()
+        shares = {project: share(money, total, self.column_16(project)) for project in self.projects}
+        self.closings = {}
+        for project, received in shares.items():
+            owed = difference(self.actual_in(self.year, project), self.due_now[project], received)
+            borne = interest(owed, by_factor)
+            true_up, kept = settled(owed + borne + self.kept[project])
+            self.due_now[project], self.due_next[project] = self.due_next[project], true_up
+            self.kept[project] = kept
+            self.receipts[project] += received
+            self.interest[project] += borne
+            self.closings[project] = (owed, borne)
+        self.closed_years.append(self.year)
+        self.year += 1
+
+
+ANSWER_IS_TOLD = {"post", "pay"}
+
+# --- the law --------------------------------------------------------------------------------
+
+
+class LawBroken(Exception):
+    """A part of the law does not hold, or a refused call changed the book."""
+
+
+def check(holds, part, *figures):
+    if not holds:
+        raise LawBroken(part, *figures)
+
+
+def check_law(book, tally, accepted):
+    """Every part of the law, after a call: its name if it was accepted, or else None."""
+    projects = [row.project for row in book.rows]
+    check(projects == tally.projects, "rows_are_the_filed_projects", projects, tally.projects)
+    charged, paid_or_left = tally.charges(), tally.payments + book.till()
+    check(charged == paid_or_left, "charges_equal_payments_plus_till", charged, paid_or_left)
+    for row in book.rows:
+        check_lifetime(row, tally)
+    if accepted == "pay":
+        check_shares(book, tally)
+    if accepted == "close":
+        check_interest(tally.closings.values())
+
+
+def check_lifetime(row, tally):
+    received = tally.receipts[row.project] + 100 * (row.due_now + row.due_next) + row.kept
+    due = 100 * tally.closed_actuals(row.project) + tally.interest[row.project]
+    check(received == due, "lifetimes_add_up", row, received, due)
+    check(abs(row.kept) <= 50, "lifetimes_add_up: kept", row)
+
+
+def check_shares(book, tally):
+    money, total = tally.money(), tally.total()
+    check(total > 0, "shares_are_paid_after_pay: total", total)
+    check(0 <= book.till() < len(book.rows), "shares_are_paid_after_pay: till", book.till())
+    for row in book.rows:
+        product = money * tally.column_16(row.project)
+        check(row.paid * total <= product < (row.paid + 1) * total, "shares_are_paid_after_pay", row)
+
+
+def check_interest(closings):
+    """In the order of differences: the interest of neighbours says it of all."""
+    # a project without a difference bears nothing
+    ordered = sorted([*closings, (0, 0)])
+    for (owed, borne), (more_owed, more_borne) in zip(ordered, ordered[1:]):
+        fair = borne == more_borne if owed == more_owed else borne <= more_borne
+        check(fair, "interest_is_fair_in_each_close", owed, borne, more_owed, more_borne)
+    for owed, borne in ordered:
+        turned = borne < 0 <= owed or owed <= 0 < borne
+        check(not turned, "interest_is_fair_in_each_close: sign", owed, borne)
+
+
+# --- runs of calls --------------------------------------------------------------------------
+
+
+class Run:
+    """A book just opened and its tally; every call goes to both, and the law is checked after it."""
+
+    def __init__(self, journal, year):
+        self.book = Book(journal, year)
+        self.tally = Tally(year)
+
+    def call(self, name, *arguments):
+        """The answer of a call, or its refusal."""
+        before = self.book.view()
+        try:
+            answer = getattr(self.book, name)(*arguments)
+        except Refused:
+            check(self.book.view() == before, "a refused call changed the book", name, arguments)
+            check_law(self.book, self.tally, None)
+            raise
+        self.tally.told(name, arguments, answer)
+        check_law(self.book, self.tally, name)
+        return answer
+
+
+# --- runs made at random --------------------------------------------------------------------
+
+FORECAST, DOLLARS, KWH = 1_000_000_000, 100_000_000, 10_000_000_000
+
+
+class Maker:
+    """Makes up calls on a run: mostly such as move its year on, and some of any kind."""
+
+    def __init__(self, dice):
+        self.dice = dice
+        many = dice.choice([1, 2, 3, 5, 80])
+        self.projects = dice.sample(range(1, dice.choice([100, 99_999_999])), many)
+        self.fewest = dice.choice([1, min(many, 64)])
+        self.participants = dice.choice([1, 2, 5])
+        self.largest = 10 ** dice.randrange(1, 9)
+        self.largest_kwh = dice.choice([10, 1_000, 1_000_000, KWH])
+        self.usage_rate = dice.choice([10, 30_000, 1_000_000])
+        self.wild = dice.choice([0.05, 0.2, 0.6])
+        year = dice.choice([0, 1, 2026, 2026, 2026, 65_532, 65_533])
+        journal = dice.choice([TableJournal, EntryJournal])
+        self.run = Run(journal(dice.choice([0, 3, 10, 30])), year)
+
+    def within(self, low, high):
+        """A number of a range, its ends and beyond among them."""
+        size = min(10 ** self.dice.randrange(1, 12), high - low + 1)
+        beyond = [low - 1, high + 1, -(2**63), 2**63 - 1]
+        return self.dice.choice([low, high, *beyond, *(low + self.dice.randrange(size) for _ in range(12))])
+
+    def project(self):
+        return self.dice.choice(self.projects)
+
+    def dollars(self):
+        return self.dice.randrange(self.largest + 1)
+
+    def forecast(self):
+        """One that makes a usage rate in range, if any does."""
+        forecast = self.run.book.total() * 10_000 // self.dice.randrange(1, self.usage_rate + 1)
+        return min(max(forecast, 1), FORECAST)
+
+    def requirement(self, project):
+        """One that makes column 16 no less than 0."""
+        row = self.run.book.row_of(project)
+        return self.dollars() + max(0, -row.due_now if row else 0)
+
+    def kwh(self):
+        return self.dice.randrange(self.largest_kwh + 1)
+
+    def pair(self):
+        return self.dice.randrange(1, self.participants + 1), self.dice.randrange(1, 13)
+
+    def rates(self):
+        """A rate list; the quarters of a run may leave out a month of the year's 24."""
+        dice, book = self.dice, self.run.book
+        rate = dice.choice([0, 1, 25_000, 100_000, dice.randrange(100_001), dice.randrange(100_000, 100_010)])
+        first = 4 * book.year + dice.randrange(-3, 2)
+        run = [dice.randrange(100_002) for _ in range(dice.randrange(13))]
+        quarters = quarterly(first, run)
+        return dice.choice([flat(25_000), flat(rate), quarters, holding(quarters), holding(holding(quarters))])
+
+    def forward(self):
+        """A call that moves the year on."""
+        dice, rows = self.dice, self.run.book.rows
+        if self.run.book.rate is None:
+            unfiled = [row.project for row in rows if row.requirement is None]
+            if len(rows) >= self.fewest and not unfiled and dice.random() < 0.5:
+                return "post", self.forecast()
+            project = dice.choice(unfiled or self.projects)
+            return "file", project, self.requirement(project)
+        unstated = [row.project for row in rows if row.actual is None]
+        kind = dice.random()
+        if kind < 0.5:
+            return dice.choice(["bill", "bill", "resettle"]), *self.pair(), self.kwh()
+        if kind < 0.65:
+            return ("pay",)
+        if unstated:
+            return "state", dice.choice(unstated), self.dollars()
+        return dice.choice([("pay",), ("close", self.rates())])
+
+    def any(self):
+        """A call of any kind, in range or out."""
+        dice = self.dice
+        project = dice.choice([self.project(), self.within(1, 99_999_999)])
+        dollars = dice.choice([self.dollars(), self.within(0, DOLLARS)])
+        pair = dice.choice([self.pair(), (self.within(1, 65_535), self.within(1, 12))])
+        kwh = dice.choice([self.kwh(), self.within(0, KWH)])
+        return dice.choice(
+            [
+                ("file", project, dollars),
+                ("post", self.within(1, FORECAST)),
+                ("bill", *pair, kwh),
+                ("resettle", *pair, kwh),
+                ("pay",),
+                ("state", project, dollars),
+                ("close", self.rates()),
+                ("look", project),
+            ]
+        )
+
+    def next_call(self):
+        return self.any() if self.dice.random() < self.wild else self.forward()
+
+
+def random_runs(seed, count):
+    """So many calls on books made at random: how often each was accepted, and refused with each number."""
+    dice = random.Random(seed)
+    books, accepted, refused = 0, Counter(), defaultdict(Counter)
+    maker, left = None, 0
+    for _ in range(count):
+        if left == 0:
+            maker, left = Maker(dice), dice.choice([20, 200, 1_000])
+            books += 1
+        left -= 1
+        name, *arguments = maker.next_call()
+        try:
+            maker.run.call(name, *arguments)
+            accepted[name] += 1
+        except Refused as why:
+            refused[why.number][name] += 1
+    yield f"{count:,} calls on {books:,} books, {accepted['close']:,} closes; the law holds after each call"
+    yield "accepted    " + said(accepted)
+    for number in range(1, 21):
+        yield f"refused {number:>2}  " + said(refused[number])
+
+
+def said(times):
+    return ", ".join(f"{name} {times[name]:,}" for name in sorted(times)) or "never"
