@@ -1,4 +1,5 @@
 pub mod Asking
 pub mod Rows
 pub mod Tables
+pub mod Remaining
 pub mod Views

@@ -1,19 +1,13 @@
 -- A row table: a book's year, state, money and rows, without its journal.
-use Rattle.std.specs.Prelude.{◌-ℤ◌, is_some, nat_le, Ok, Err, ◌≡◌, ℕ, ◌+◌, ◌≤◌, true, List, [], ◌∷◌, ◌++◌, length, take, drop, ℤ, Result, unsigned_abs, IsTrue, nat_lt}
-use Rattle.std.specs.List.{list_all}
+use Rattle.std.specs.Prelude.{◌≡◌, ℕ, ◌+◌, ◌≤◌, true, List, [], ◌∷◌, ◌++◌, length, take, drop, ℤ, ◌-ℤ◌, Ok, Err, Result, unsigned_abs, IsTrue, nat_lt}
 use Rattle.journals.specs.Journal.{Held}
 use Rattle.settlement.specs.declared.refusal.Refusal.{Refusal}
 use Rattle.settlement.specs.declared.state.State.{State}
-use Rattle.settlement.specs.Books.{nothing_held, sum_of_paid, BookView, RowView, has_row, on_row, rate_of, row_on, with_row_for}
-use Rattle.settlement.specs.Outcomes.{Gives, Outcome, ask, asked, done, in_dollars, in_money}
-use Rattle.settlement.specs.Drafting.{filed_book, has_room, may_file}
-use Rattle.rates.specs.Factor.{interest_months}
-use Rattle.settlement.specs.Closing.{closed_book, closed_row, figures_of, is_true_up, last_closing_year}
-use Rattle.settlement.specs.Lists.{Lists, terms_at, terms_of}
-use Rattle.settlement.specs.Rules.{Figures}
 use Rattle.settlement.specs.declared.state.State.TheVariants.{Draft}
-use Rattle.settlement.specs.Looking.{stated_book}
-use Rattle.settlement.specs.declared.refusal.Refusal.TheVariants.{LastYear, RateMissing, TrueUpOutOfRange, ActualOutOfRange, NoRoomForARow, NoRow, RequirementOutOfRange}
+use Rattle.settlement.specs.Books.{BookView, RowView, has_row, nothing_held, on_row, rate_of, row_on, sum_of_paid, with_row_for}
+use Rattle.settlement.specs.Closing.{closed_row}
+use Rattle.settlement.specs.Outcomes.{Gives, Outcome, in_money}
+use Rattle.settlement.specs.Rules.{Figures}
 
 pub record TableView : Type 0 where
   pub year : ℕ
@@ -50,14 +44,6 @@ pub record StandsAt (project : ℕ) (rows : List RowView) (place : ℕ) (row : R
   pub change_is_written_there : (change : RowView → RowView) → on_row project change (with_row_for project rows) ≡ written place (change row) rows
   pub change_of_a_row_is_written_there : (change : RowView → RowView) → has_row project rows ≡ true → on_row project change rows ≡ written place (change row) rows
 
-abbrev pub filed_row : BookView → ℕ → ℤ → Outcome (Unit {0})
-filed_row b project requirement =
-    asked b (ask (has_room project b.rows) NoRoomForARow ∷ ask (may_file requirement (row_on project b.rows).account) RequirementOutOfRange ∷ []) (done tt (filed_book b project requirement))
-
-abbrev pub stated_row : BookView → ℕ → ℤ → Outcome (Unit {0})
-stated_row b project actual =
-    asked b (ask (has_row project b.rows) NoRow ∷ ask (in_dollars actual) ActualOutOfRange ∷ []) (done tt (stated_book b project actual))
-
 -- the rows closed with these figures, one each
 abbrev pub closed_rows : List RowView → List Figures → List RowView
 closed_rows [] figures = []
@@ -75,13 +61,3 @@ held_after (Err why) held = held
 
 abbrev pub TableCloses : (BookView → Outcome (Unit {0})) → TableView → Result (Unit {0}) Refusal → TableView → Type 0
 TableCloses call before answer after = (held : Held) → Gives (call (book_of held before)) answer (book_of (held_after answer held) after)
-
--- the last three questions of a close, and the closing
-abbrev pub closed_at_rates : BookView → Lists → Outcome (Unit {0})
-closed_at_rates b lists =
-    asked b
-    (ask (nat_le b.year last_closing_year) LastYear
-    ∷ ask (is_some (terms_of interest_months lists b.year)) RateMissing
-    ∷ ask (list_all (λ r. is_true_up (figures_of (terms_at interest_months lists b.year) r).true_up) b.rows) TrueUpOutOfRange
-    ∷ [])
-    (done tt (closed_book (figures_of (terms_at interest_months lists b.year)) b))

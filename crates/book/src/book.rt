@@ -8,7 +8,8 @@ ghost use Rattle.settlement.specs.Drafting.{filed, opened, posted};
 ghost use Rattle.settlement.specs.Looking.{looked, row_at, standing_of, stated};
 ghost use Rattle.settlement.specs.Outcomes.{Gives};
 ghost use Rattle.settlement.specs.Paying.{paid};
-ghost use Rattle.book.specs.Views.{Leaves, billed_at, resettled_at, entered, pair_in, places, view};
+ghost use Rattle.book.specs.Remaining.{billed_reading, entered, resettled_reading};
+ghost use Rattle.book.specs.Views.{Leaves, pair_in, places, view};
 
 use crate::reading::Reading;
 use crate::row_table::RowTable;
@@ -26,10 +27,17 @@ pub struct Book<J> {
 
 impl<J: Journal> Book<J> {
     /// A draft of the year without rows or money, over a journal, which is wiped.
-    pub fn open(mut journal: J, year: u16) -> Book<J>
+    pub fn open(journal: J, year: u16) -> Book<J>
         ensures opened { view J.held result ≡ opened year }
         ensures places { J.wipe_leaves journal result.journal }
         ensures no_cent_is_made_or_lost { NoCentIsMadeOrLost (view J.held) (places J.place) year result }
+    {
+        Book::draft(journal, year)
+    }
+
+    fn draft(mut journal: J, year: u16) -> Book<J>
+        ensures opened { view J.held result ≡ opened year }
+        ensures places { J.wipe_leaves journal result.journal }
     {
         journal.wipe();
         Book {
@@ -128,7 +136,7 @@ impl<J: Journal> Book<J> {
     /// Questions 9 to 12, and the bill.
     fn bill_reading(&mut self, reading: &Reading) -> Result<i64, Refusal>
         requires { reading.now.kwh ≤ 10000000000 }
-        ensures outcome { Gives (billed_at (view J.held self.old) (J.place self.old.journal (pair_in reading.now)) (pair_in reading.now) reading.now.kwh) result (view J.held self.new) }
+        ensures outcome { Gives (billed_reading (view J.held self.old) (J.place self.old.journal (pair_in reading.now)) (pair_in reading.now) reading.now.kwh) result (view J.held self.new) }
         ensures places { Leaves (λ before after. J.put_leaves before (pair_in reading.now) after) self.old.journal result self.new.journal }
     {
         let rate = self.table.rate()?;
@@ -151,7 +159,7 @@ impl<J: Journal> Book<J> {
     /// Questions 9, 13 and 11, and the resettlement.
     fn resettle_reading(&mut self, reading: &Reading) -> Result<i64, Refusal>
         requires { reading.now.kwh ≤ 10000000000 }
-        ensures outcome { Gives (resettled_at (view J.held self.old) (pair_in reading.now) reading.now.kwh) result (view J.held self.new) }
+        ensures outcome { Gives (resettled_reading (view J.held self.old) (pair_in reading.now) reading.now.kwh) result (view J.held self.new) }
         ensures places { Leaves (λ before after. J.put_leaves before (pair_in reading.now) after) self.old.journal result self.new.journal }
     {
         let rate = self.table.rate()?;

@@ -7,7 +7,8 @@ ghost use Rattle.settlement.specs.Closing.{closed, figures_of, has_its_share, is
 ghost use Rattle.settlement.specs.Looking.{stated};
 ghost use Rattle.settlement.specs.Outcomes.{in_money};
 ghost use Rattle.settlement.specs.Paying.{paid};
-ghost use Rattle.book.specs.Tables.{TableCloses, closed_at_rates, closed_rows, closed_table};
+ghost use Rattle.book.specs.Remaining.{closed_at_rates};
+ghost use Rattle.book.specs.Tables.{TableCloses, closed_rows, closed_table};
 ghost use Rattle.book.specs.Asking.{Asks};
 
 use crate::figures::Figures;

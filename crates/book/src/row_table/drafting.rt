@@ -5,7 +5,8 @@ ghost use Rattle.settlement.specs.Books.{total_of};
 ghost use Rattle.settlement.specs.Drafting.{filed, all_filed, is_forecast, is_usage_rate, posted};
 ghost use Rattle.std.specs.NonZero.{non_zero_u64_get};
 ghost use Rattle.settlement.specs.Rules.{rate_scale, unsigned, usage_rate};
-ghost use Rattle.book.specs.Tables.{TableGives, filed_row};
+ghost use Rattle.book.specs.Remaining.{filed_row};
+ghost use Rattle.book.specs.Tables.{TableGives};
 ghost use Rattle.book.specs.Asking.{Asks};
 
 use crate::row_table::RowTable;

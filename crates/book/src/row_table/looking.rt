@@ -2,7 +2,8 @@ ghost use Rattle.std.specs.Prelude.{◌≡◌};
 ghost use Rattle.std.specs.List.{position};
 ghost use Rattle.journals.specs.Journal.{Held};
 ghost use Rattle.settlement.specs.Looking.{row_at, standing_of, looked, stated};
-ghost use Rattle.book.specs.Tables.{book_of, TableGives, stated_row};
+ghost use Rattle.book.specs.Remaining.{stated_row};
+ghost use Rattle.book.specs.Tables.{book_of, TableGives};
 
 use crate::row_table::RowTable;
 use crate::row_table::places::project_number;
