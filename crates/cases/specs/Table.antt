@@ -2,6 +2,7 @@
 use Rattle.std.specs.Prelude.{◌≡◌, ℕ, ◌<◌, pos, Some, None}
 use Rattle.rates.specs.Holding.{held}
 use Rattle.rates.specs.Rates.{Rates, december, january}
+use Rattle.settlement_cases.specs.Table.{SettledCases}
 use Rattle.sheets.specs.Attachments.{cc_rules, mm_rules}
 use Rattle.cases.specs.Sheets.{cc_figures, factors_of_sheet, mm_figures, project, requirement}
 
@@ -21,3 +22,5 @@ pub record WorkedCases : Type 0 where
   -- December 2012 is the last month with a rate: holding covers December 2014, and January 2015 has nothing
   pub rate_held_to_december_2014 : (rates : Rates) (rate : ℕ) → LastRate rates (december 2012) rate → held rates (december 2014) ≡ Some rate
   pub no_rate_in_january_2015 : (rates : Rates) (rate : ℕ) → LastRate rates (december 2012) rate → held rates (january 2015) ≡ None
+  -- the book: charges, shares, interest, true-ups, refusals and a run of three years
+  pub book : SettledCases

@@ -10,7 +10,7 @@ mod tests;
 /// How many worked cases the table has; the contract is the table.
 pub fn worked_cases() -> u8
     ensures table { WorkedCases }
-    ensures count { result ≡ 8 }
+    ensures count { result ≡ 25 }
 {
-    8
+    25
 }

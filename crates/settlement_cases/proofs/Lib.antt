@@ -1,2 +1,3 @@
 pub mod ThreeYears
 pub mod Settling
+pub mod Table
