@@ -135,6 +135,17 @@ impl RowTable {
         ensures bound { unsigned_abs result ≤ 5850000000000 }
         ensures at_most_the_money { result ≤ℤ self.now.money }
     {
-        self.money - self.sum_of_paid()
+        self.left_of(self.sum_of_paid())
+    }
+
+    /// The money less what is paid.
+    fn left_of(&self, paid: i64) -> i64
+        requires not_below { pos 0 ≤ℤ paid }
+        requires bound { unsigned_abs paid ≤ 5760000000000 }
+        ensures value { result ≡ self.now.money -ℤ paid }
+        ensures bound { unsigned_abs result ≤ 5850000000000 }
+        ensures at_most_the_money { result ≤ℤ self.now.money }
+    {
+        self.money - paid
     }
 }

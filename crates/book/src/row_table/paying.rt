@@ -29,7 +29,8 @@ impl RowTable {
         self.rate()?;
         let before = self.sum_of_paid();
         self.pay_rows();
-        Ok((self.sum_of_paid() - before, self.till()))
+        let after = self.sum_of_paid();
+        Ok((after - before, self.left_of(after)))
     }
 
     /// Pays every row its share.
