@@ -1,2 +1,3 @@
-mod Cutting
 mod Spelled
+mod Rating
+mod Endings

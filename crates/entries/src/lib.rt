@@ -1,5 +1,15 @@
 //! The lines of a daybook: a line's text to its entry, and an answer to its text.
 #![tactic(auto)]
 
+mod entry;
+mod given_list;
+mod journal_kind;
+mod line;
 mod numbers;
+mod reading;
 mod words;
+
+pub use entry::{Entry, MeterReading};
+pub use given_list::{GivenList, GivenRates};
+pub use journal_kind::JournalKind;
+pub use line::{Line, read_line};

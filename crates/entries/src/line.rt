@@ -1,0 +1,45 @@
+ghost use Rattle.std.specs.Prelude.{◌≡◌};
+ghost use Rattle.std.specs.Str.Lines.{strip_carriage_return};
+ghost use Rattle.entries.specs.Lines.{line_in, passed_over};
+
+use crate::entry::Entry;
+use crate::reading::read_entry;
+
+/// What a line of a daybook is.
+#[derive(Drop)]
+pub enum Line<'a> {
+    /// An empty line, or one that begins with `#`.
+    Passed,
+    Entry(Entry<'a>),
+    /// Any other line.
+    Unread,
+}
+
+/// A line without the carriage return at its end, if there is one.
+fn without_cr(line: &str) -> &str
+    ensures { result.now ≡ strip_carriage_return line.now }
+{
+    line.strip_suffix('\r').unwrap_or(line)
+}
+
+/// Whether a line is passed over.
+fn is_passed_over(line: &str) -> bool
+    ensures { result ≡ passed_over line.now }
+{
+    matches!(line.as_bytes(), [] | [b'#', ..])
+}
+
+/// Reads a line, given without its newline. A carriage return at its end is dropped.
+#[tactic(auto, unfolding(crate::specs::Lines::line_in))]
+pub fn read_line(line: &str) -> Line<'_>
+    ensures { result ≡ line_in line.now }
+{
+    let line = without_cr(line);
+    if is_passed_over(line) {
+        return Line::Passed;
+    }
+    match read_entry(line) {
+        Some(entry) => Line::Entry(entry),
+        None => Line::Unread,
+    }
+}
