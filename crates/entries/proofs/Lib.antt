@@ -1,3 +1,7 @@
 mod Spelled
 mod Rating
 mod Endings
+mod Cutting
+mod TextsRead
+mod ReadsText
+mod Laws

@@ -1,5 +1,6 @@
 pub mod Words
 pub mod Numbers
 pub mod Rates
+pub mod Texts
 pub mod Readings
 pub mod Lines

@@ -1,6 +1,6 @@
 ghost use Rattle.std.specs.Prelude.{◌≡◌};
 ghost use Rattle.std.specs.Str.Lines.{strip_carriage_return};
-ghost use Rattle.entries.specs.Lines.{line_in, passed_over};
+ghost use Rattle.entries.specs.Lines.{ReadsEntryTexts, line_in, passed_over, text_in};
 
 use crate::entry::Entry;
 use crate::reading::read_entry;
@@ -29,17 +29,24 @@ fn is_passed_over(line: &str) -> bool
     matches!(line.as_bytes(), [] | [b'#', ..])
 }
 
-/// Reads a line, given without its newline. A carriage return at its end is dropped.
-#[tactic(auto, unfolding(crate::specs::Lines::line_in))]
-pub fn read_line(line: &str) -> Line<'_>
-    ensures { result ≡ line_in line.now }
+/// What a line is that has no carriage return to drop.
+fn read_text(text: &str) -> Line<'_>
+    ensures { result ≡ text_in text.now }
 {
-    let line = without_cr(line);
-    if is_passed_over(line) {
+    if is_passed_over(text) {
         return Line::Passed;
     }
-    match read_entry(line) {
+    match read_entry(text) {
         Some(entry) => Line::Entry(entry),
         None => Line::Unread,
     }
+}
+
+/// Reads a line, given without its newline. A carriage return at its end is dropped.
+#[tactic(auto, using(crate::proofs::Laws::reads_entry_texts), unfolding(crate::specs::Lines::line_in))]
+pub fn read_line(line: &str) -> Line<'_>
+    ensures reading { result ≡ line_in line.now }
+    ensures reads_entry_texts { ReadsEntryTexts line.now result }
+{
+    read_text(without_cr(line))
 }

@@ -1,0 +1,58 @@
+-- A text is cut at its commas into just the words that it was joined of.
+use Rattle.std.proofs.Common.{◌≡◌, ℕ, zero, suc, ◌+◌, ◌<◌, ◌≤◌, true, false, not, cond, eqb, ltb, List, [], ◌∷◌, ◌++◌, length, get_or, take, drop, ℤ, pos, negsuc, Some, sym, refl, ap, ◌∙◌, subst, add-one, drop-cons, ◌/◌, ◌%◌, arith}
+use Rattle.std.specs.List.{All, join_with_byte, position, position_or_len, slice_split}
+use Rattle.std.proofs.Math.Seq.{drop-append-add}
+use Rattle.std.proofs.lemmas.Bool.{cond-true, eqb-true, lt-ltb, ne_eqb}
+use Rattle.std.proofs.lemmas.List.{drop_at, drop-drop, length-append, length-drop, take_all, take-append-drop, take_at}
+use Rattle.std.proofs.lemmas.List.Elements.{All-append, All-cons, All-head, All-nil, All-push, All-tail}
+use Rattle.std.proofs.lemmas.List.Quantifiers.{position-Some}
+use Rattle.std.proofs.lemmas.List.Splits.{slice_split_at, slice_split_none}
+use Rattle.columns.specs.Texts.{digits_of}
+use Rattle.columns.proofs.Digits.{by_digits, some_digit}
+use Rattle.columns.proofs.Spelling.{text_at_least_zero}
+use Rattle.entries.specs.Texts.{number}
+use Rattle.entries.specs.Words.{first_word, is_comma, joined, words_after}
+
+abbrev pub NoComma : List ℕ → Type 0
+NoComma word = All (λ b. is_comma b ≡ false) word
+
+comma_at : (word rest : List ℕ) → NoComma word → position_or_len is_comma (word ++ (44 ∷ rest)) ≡ length word
+comma_at [] rest h = refl
+comma_at (b ∷ bs) rest h =
+    let P : ℕ → Type 0 = λ b. is_comma b ≡ false in
+    ap (λ t. cond (not t) (1 + position_or_len is_comma (bs ++ (44 ∷ rest))) 0) (All-head P b bs h) ∙ omega (arith, comma_at bs rest (All-tail P b bs h))
+
+-- the first word and what follows it
+pub cut : (word rest : List ℕ) → NoComma word → (first_word (word ++ (44 ∷ rest)) ≡ word) × (words_after (word ++ (44 ∷ rest)) ≡ rest)
+cut word rest h =
+    let at = comma_at word rest h in (
+      take_at word (44 ∷ rest) _ (sym at),
+      ap (λ k. drop (k + 1) (word ++ (44 ∷ rest))) at ∙ drop-append-add word (44 ∷ rest) 1,
+    )
+
+pub cut_is : (text word rest : List ℕ) → first_word text ≡ word → words_after text ≡ rest → 0 < length rest → text ≡ word ++ (44 ∷ rest)
+cut_is text word rest f w some =
+    let at : ℕ = position_or_len is_comma text in
+    let within : at < length text = omega (arith, length-drop (at + 1) text, ap length w) in
+    let found : position is_comma text ≡ Some at = cond-true (ltb at (length text)) (Some at) _ (lt-ltb _ _ within) in
+    let is : get_or text at 0 ≡ 44 = eqb-true _ 44 (position-Some is_comma text at 0 found).1 in
+    sym (take-append-drop at text) ∙ (λ i. take at text ++ (drop-cons text at 0 within ∙ (λ j. is j ∷ drop (sym (add-one at) j) text)) i) ∙ (λ i. f i ++ (44 ∷ w i))
+
+pub digits_no_comma : (m : ℕ) → NoComma (digits_of m)
+digits_no_comma = by_digits (λ m ds. NoComma ds)
+    (λ m l. All-cons (λ b. is_comma b ≡ false) (48 + m) [] (ne_eqb _ _ (λ e. omega arith)) (All-nil (λ b. is_comma b ≡ false)))
+    (λ m ds l h. All-push (λ b. is_comma b ≡ false) ds (48 + m % 10) h (ne_eqb _ _ (λ e. omega arith)))
+
+pub number_no_comma : (n : ℤ) → NoComma (number n)
+number_no_comma (pos m) = subst NoComma (sym (text_at_least_zero m)) (digits_no_comma m)
+number_no_comma (negsuc m) = All-cons (λ b. is_comma b ≡ false) 45 (digits_of (suc m)) refl (digits_no_comma (suc m))
+
+pub number_some : (n : ℤ) → 0 < length (number n)
+number_some (pos m) = subst (λ ds. 0 < length ds) (sym (text_at_least_zero m)) (some_digit m)
+number_some (negsuc m) = omega arith
+
+-- the words of joined words
+pub split_joined : (word : List ℕ) (others : List (List ℕ)) → NoComma word → All NoComma others → slice_split is_comma (joined (word ∷ others)) ≡ word ∷ others
+split_joined word [] h hs = slice_split_none is_comma word h
+split_joined word (next ∷ others) h hs =
+    slice_split_at is_comma word 44 (joined (next ∷ others)) h refl ∙ ap (λ ws. word ∷ ws) (split_joined next others (All-head NoComma next others hs) (All-tail NoComma next others hs))

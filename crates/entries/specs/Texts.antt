@@ -1,0 +1,75 @@
+-- The text of an entry: its words, a comma between each two.
+use Rattle.std.specs.Prelude.{◌≡◌, ℕ, ◌^◌, ◌<◌, ◌≤◌, Bool, cond, List, [], ◌∷◌, ◌++◌, length, map, ℤ, pos, codes}
+use Rattle.std.specs.Int.Signed.{mag}
+use Rattle.std.specs.List.{All}
+use Rattle.columns.specs.Texts as columns
+use Rattle.entries.specs.Words.{joined}
+use Rattle.entries.specs.declared.entry.Entry.{Entry}
+use Rattle.entries.specs.declared.entry.Entry.TheVariants.{Open, File, Post, Bill, Resettle, Pay, State, Close, Look}
+use Rattle.entries.specs.declared.entry.MeterReading.{MeterReading}
+use Rattle.entries.specs.declared.given_list.GivenList.{GivenList}
+use Rattle.entries.specs.declared.given_list.GivenList.TheVariants.{Flat, Quarter}
+use Rattle.entries.specs.declared.journal_kind.JournalKind.{JournalKind}
+use Rattle.entries.specs.declared.journal_kind.JournalKind.TheVariants.{Table, Entries}
+
+-- a number's text, as in columns
+abbrev pub number : ℤ → List ℕ
+number n = columns.text_of n
+
+abbrev pub natural : ℕ → List ℕ
+natural n = number (pos n)
+
+abbrev pub journal_words : JournalKind → List (List ℕ)
+journal_words (Table participants) = codes "table" ∷ natural participants ∷ []
+journal_words (Entries records) = codes "entries" ∷ natural records ∷ []
+
+abbrev pub meter_words : MeterReading → List (List ℕ)
+meter_words r = number r.participant ∷ number r.month ∷ number r.kwh ∷ []
+
+abbrev pub list_words : GivenList → List (List ℕ)
+list_words (Flat rate) = codes "flat" ∷ natural rate ∷ []
+list_words (Quarter first rates) = codes "quarter" ∷ natural first ∷ map natural rates
+
+abbrev pub held_words : Bool → GivenList → List (List ℕ)
+held_words holding list = cond holding (codes "holding" ∷ list_words list) (list_words list)
+
+abbrev pub entry_words : Entry → List (List ℕ)
+entry_words (Open year journal) = codes "open" ∷ natural year ∷ journal_words journal
+entry_words (File project requirement) = codes "file" ∷ number project ∷ number requirement ∷ []
+entry_words (Post forecast) = codes "post" ∷ number forecast ∷ []
+entry_words (Bill reading) = codes "bill" ∷ meter_words reading
+entry_words (Resettle reading) = codes "resettle" ∷ meter_words reading
+entry_words Pay = codes "pay" ∷ []
+entry_words (State project actual) = codes "state" ∷ number project ∷ number actual ∷ []
+entry_words (Close holding list) = codes "close" ∷ held_words holding list
+entry_words (Look project) = codes "look" ∷ number project ∷ []
+
+abbrev pub entry_text : Entry → List ℕ
+entry_text e = joined (entry_words e)
+
+-- −2^63 ≤ n < 2^63: mag is n from zero on, and −n − 1 below
+abbrev pub FitsI64 : ℤ → Type 0
+FitsI64 n = mag n < 2 ^ 63
+
+abbrev pub JournalFits : JournalKind → Type 0
+JournalFits (Table participants) = participants < 2 ^ 16
+JournalFits (Entries records) = records ≤ 1000000
+
+abbrev pub MeterFits : MeterReading → Type 0
+MeterFits r = FitsI64 r.participant × (FitsI64 r.month × FitsI64 r.kwh)
+
+abbrev pub ListFits : GivenList → Type 0
+ListFits (Flat rate) = rate < 2 ^ 32
+ListFits (Quarter first rates) = (first < 2 ^ 32) × ((0 < length rates) × All (λ rate. rate < 2 ^ 32) rates)
+
+-- its numbers are within their ranges, and a quarter list has a rate
+abbrev pub Fits : Entry → Type 0
+Fits (Open year journal) = (year < 2 ^ 16) × JournalFits journal
+Fits (File project requirement) = FitsI64 project × FitsI64 requirement
+Fits (Post forecast) = FitsI64 forecast
+Fits (Bill reading) = MeterFits reading
+Fits (Resettle reading) = MeterFits reading
+Fits Pay = Unit {0}
+Fits (State project actual) = FitsI64 project × FitsI64 actual
+Fits (Close holding list) = ListFits list
+Fits (Look project) = FitsI64 project
