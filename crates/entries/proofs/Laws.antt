@@ -8,12 +8,19 @@ use Rattle.entries.specs.Readings.{entry_in}
 use Rattle.entries.specs.Texts.{Fits, entry_text}
 use Rattle.entries.specs.declared.entry.Entry as entry
 use Rattle.entries.specs.declared.entry.Entry.TheVariants.{Open, File, Post, Bill, Resettle, Pay, State, Close, Look}
+use Rattle.entries.specs.declared.given_list.GivenList.{GivenList}
 use Rattle.entries.specs.declared.given_list.GivenList.TheVariants.{Flat, Quarter}
 use Rattle.entries.specs.declared.journal_kind.JournalKind.TheVariants.{Table, Entries}
 use Rattle.entries.specs.declared.line.Line.{Line}
 use Rattle.entries.specs.declared.line.Line.TheVariants.{Passed, Entry, Unread}
 use Rattle.entries.proofs.ReadsText.{read_is}
 use Rattle.entries.proofs.TextsRead.{text_read}
+
+close_not_passed_over : (holding : Bool) (l : GivenList) → passed_over (entry_text (Close (record { holding = holding; list = l }))) ≡ false
+close_not_passed_over true (Flat rate) = refl
+close_not_passed_over true (Quarter first rates) = refl
+close_not_passed_over false (Flat rate) = refl
+close_not_passed_over false (Quarter first rates) = refl
 
 not_passed_over : (e : entry.Entry) → passed_over (entry_text e) ≡ false
 not_passed_over (Open year (Table participants)) = refl
@@ -24,10 +31,7 @@ not_passed_over (Bill reading) = refl
 not_passed_over (Resettle reading) = refl
 not_passed_over Pay = refl
 not_passed_over (State project actual) = refl
-not_passed_over (Close true (Flat rate)) = refl
-not_passed_over (Close true (Quarter first rates)) = refl
-not_passed_over (Close false (Flat rate)) = refl
-not_passed_over (Close false (Quarter first rates)) = refl
+not_passed_over (Close l) = close_not_passed_over l.holding l.list
 not_passed_over (Look project) = refl
 
 entry_not_passed : (o : Option entry.Entry) → entry_or_unread o ≡ Passed → ⊥

@@ -1,6 +1,6 @@
 -- Whether each word is a rate.
 use Rattle.std.proofs.Common.{◌≡◌, ℕ, Bool, true, false, ◌&&◌, List, [], ◌∷◌, map, Option, Some, None, sym, refl, ap, ◌∙◌}
-use Rattle.std.specs.List.{list_all}
+use Rattle.std.specs.List.{cons_option, filter_map, list_all}
 use Rattle.std.specs.Option.{IsSome, is_some, option_map, unwrap_or}
 use Rattle.std.proofs.lemmas.Bool.{false≢true}
 use Rattle.entries.specs.Rates.{all_of}
@@ -29,3 +29,16 @@ module _ (f : List ℕ → Option ℕ) where
   pub one_missing : (words : List (List ℕ)) → list_all (λ w. is_some (f w)) words ≡ false → None ≡ all_of (map f words)
   one_missing [] e = absurd (false≢true (sym e))
   one_missing (w ∷ ws) e = first_missing (f w) (list_all (λ w. is_some (f w)) ws) (map f ws) (one_missing ws) e
+
+  first_kept : (o : Option ℕ) (kept : List ℕ) (others : List (Option ℕ)) → (IsSome (all_of others) → kept ≡ unwrap_or (all_of others) []) → IsSome (all_of (o ∷ others)) → cons_option o kept ≡ unwrap_or (all_of (o ∷ others)) []
+  first_kept None kept others more h = absurd (false≢true h)
+  first_kept (Some n) kept others more h = by (all_of others) h more
+    where
+      by : (o : Option (List ℕ)) → IsSome (option_map (λ ns. n ∷ ns) o) → (IsSome o → kept ≡ unwrap_or o []) → n ∷ kept ≡ unwrap_or (option_map (λ ns. n ∷ ns) o) []
+      by None h more = absurd (false≢true h)
+      by (Some ns) h more = ap (λ ns. n ∷ ns) (more refl)
+
+  -- where none is missing, those that are there are all
+  pub kept_all : (words : List (List ℕ)) → IsSome (all_of (map f words)) → filter_map f words ≡ unwrap_or (all_of (map f words)) []
+  kept_all [] h = refl
+  kept_all (w ∷ ws) h = first_kept (f w) (filter_map f ws) (map f ws) (kept_all ws) h

@@ -11,14 +11,15 @@ use Rattle.std.proofs.lemmas.Option.{cond_some, none-some, same_Some}
 use Rattle.std.proofs.lemmas.Slice.Eq.{bytes_eq-Decides}
 use Rattle.entries.specs.Numbers.{below, number_in, two_numbers_in, u16_in, u32_in}
 use Rattle.entries.specs.Rates.{all_of, rates_in}
-use Rattle.entries.specs.Readings.{at_most, close_by, close_in, entry_in, journal_by, journal_in, list_by, list_in, meter_reading_in, named_in, open_in, quarter_in}
-use Rattle.entries.specs.Texts.{Fits, FitsI64, JournalFits, ListFits, MeterFits, entry_text, held_words, journal_words, list_words, meter_words, natural, number}
+use Rattle.entries.specs.Readings.{at_most, entry_in, given_list_in, journal_in, list_by, list_in, meter_reading_in, named_in, open_in, quarter_in}
+use Rattle.entries.specs.Texts.{Fits, FitsI64, GivenListFits, JournalFits, MeterFits, entry_text, given_list_words, journal_words, list_words, meter_words, natural, number}
 use Rattle.entries.specs.Words.{first_word, is_comma, joined, words_after}
 use Rattle.entries.specs.declared.entry.Entry.{Entry}
 use Rattle.entries.specs.declared.entry.Entry.TheVariants.{Open, File, Post, Bill, Resettle, Pay, State, Close, Look}
 use Rattle.entries.specs.declared.entry.MeterReading.{MeterReading}
 use Rattle.entries.specs.declared.given_list.GivenList.{GivenList}
 use Rattle.entries.specs.declared.given_list.GivenList.TheVariants.{Flat, Quarter}
+use Rattle.entries.specs.declared.given_list.ListEntry.{ListEntry}
 use Rattle.entries.specs.declared.journal_kind.JournalKind.{JournalKind}
 use Rattle.entries.specs.declared.journal_kind.JournalKind.TheVariants.{Table, Entries}
 use Rattle.entries.proofs.Cutting.{cut_is, number_some}
@@ -115,50 +116,50 @@ rates_some [] h = h
 rates_some (r ∷ []) h = number_some (pos r)
 rates_some (r ∷ q ∷ rs) h = omega (arith, length-append (natural r) (44 ∷ joined (map natural (q ∷ rs))))
 
-held_text : (l : GivenList) → joined (codes "holding" ∷ list_words l) ≡ codes "holding" ++ (44 ∷ joined (list_words l))
+held_text : (l : GivenList) → joined (codes "holding" ∷ given_list_words l) ≡ codes "holding" ++ (44 ∷ joined (given_list_words l))
 held_text (Flat rate) = refl
 held_text (Quarter first rates) = refl
 
-quarter_text : (first : ℕ) (rates : List ℕ) → 0 < length rates → joined (list_words (Quarter first rates)) ≡ codes "quarter" ++ (44 ∷ (natural first ++ (44 ∷ joined (map natural rates))))
+quarter_text : (first : ℕ) (rates : List ℕ) → 0 < length rates → joined (given_list_words (Quarter first rates)) ≡ codes "quarter" ++ (44 ∷ (natural first ++ (44 ∷ joined (map natural rates))))
 quarter_text first [] h = absurd (omega arith)
 quarter_text first (r ∷ rs) h = refl
 
-quarter_is : (words : List ℕ) (l : GivenList) → quarter_in words ≡ Some l → (first : ℕ) × ((rates : List ℕ) × ((l ≡ Quarter first rates) × ((words ≡ natural first ++ (44 ∷ joined (map natural rates))) × ListFits (Quarter first rates))))
+quarter_is : (words : List ℕ) (l : GivenList) → quarter_in words ≡ Some l → (first : ℕ) × ((rates : List ℕ) × ((l ≡ Quarter first rates) × ((words ≡ natural first ++ (44 ∷ joined (map natural rates))) × GivenListFits (Quarter first rates))))
 quarter_is words l e =
     mapped (λ p. Quarter p.0 p.1) _ l e (λ p o is. let z = zipped _ _ p o in
     let a = natural_is (2 ^ 32) (first_word words) p.0 z.0 in
     let b = rates_is (words_after words) p.1 z.1 in
     (p.0, (p.1, (sym is, (cut_is words (natural p.0) (joined (map natural p.1)) a.0 b.0 (rates_some p.1 b.1.0), (a.1, b.1))))))
 
-list_is : (words : List ℕ) (l : GivenList) → list_in words ≡ Some l → (words ≡ joined (list_words l)) × ((0 < length words) × ListFits l)
-list_is words l e =
+given_list_is : (words : List ℕ) (l : GivenList) → given_list_in words ≡ Some l → (words ≡ joined (given_list_words l)) × ((0 < length words) × GivenListFits l)
+given_list_is words l e =
     let kind = first_word words in
     let after = words_after words in
     by_word kind (codes "flat") _ _ l e
     (λ k x. mapped Flat _ l x (λ n o is.
     let a = natural_is (2 ^ 32) after n o in
     let text = cut_is words (codes "flat") (natural n) k a.0 (number_some (pos n)) in
-    subst (λ l. (words ≡ joined (list_words l)) × ((0 < length words) × ListFits l)) is (text, (omega (arith, ap length text), a.1))))
+    subst (λ l. (words ≡ joined (given_list_words l)) × ((0 < length words) × GivenListFits l)) is (text, (omega (arith, ap length text), a.1))))
     (λ y. by_word kind (codes "quarter") _ None l y
     (λ k x. let q = quarter_is after l x in
     let first : ℕ = q.0 in
     let rates : List ℕ = q.1.0 in
     let rest : List ℕ = natural first ++ (44 ∷ joined (map natural rates)) in
     let text : words ≡ codes "quarter" ++ (44 ∷ rest) = cut_is words (codes "quarter") rest k q.1.1.1.0 (omega (arith, length-append (natural first) (44 ∷ joined (map natural rates)))) in
-    subst (λ l. (words ≡ joined (list_words l)) × ((0 < length words) × ListFits l)) (sym q.1.1.0) (text ∙ sym (quarter_text first rates q.1.1.1.1.1.0), (omega (arith, ap length text), q.1.1.1.1)))
+    subst (λ l. (words ≡ joined (given_list_words l)) × ((0 < length words) × GivenListFits l)) (sym q.1.1.0) (text ∙ sym (quarter_text first rates q.1.1.1.1.1.0), (omega (arith, ap length text), q.1.1.1.1)))
     (λ none. absurd (none-some l none)))
 
-close_is : (words : List ℕ) (e : Entry) → close_in words ≡ Some e → (holding : Bool) × ((l : GivenList) × ((e ≡ Close holding l) × ((words ≡ joined (held_words holding l)) × ((0 < length words) × ListFits l))))
-close_is words e h = by (bytes_eq (first_word words) (codes "holding")) refl h
+list_is : (words : List ℕ) (l : ListEntry) → list_in words ≡ Some l → (words ≡ joined (list_words l)) × ((0 < length words) × GivenListFits l.list)
+list_is words l h = by (bytes_eq (first_word words) (codes "holding")) refl h
   where
-    by : (b : Bool) → bytes_eq (first_word words) (codes "holding") ≡ b → close_by b (cond b (words_after words) words) ≡ Some e →
-        (holding : Bool) × ((l : GivenList) × ((e ≡ Close holding l) × ((words ≡ joined (held_words holding l)) × ((0 < length words) × ListFits l))))
+    by : (b : Bool) → bytes_eq (first_word words) (codes "holding") ≡ b → list_by b (cond b (words_after words) words) ≡ Some l → (words ≡ joined (list_words l)) × ((0 < length words) × GivenListFits l.list)
     by true t h =
-        mapped (Close true) _ e h (λ l o is.
-        let a = list_is (words_after words) l o in
-        let text = cut_is words (codes "holding") (joined (list_words l)) ((bytes_eq-Decides (first_word words) (codes "holding")).0 t) a.0 (omega (arith, ap length a.0)) in
-        (true, (l, (sym is, (text ∙ sym (held_text l), (omega (arith, ap length text), a.1.1))))))
-    by false t h = mapped (Close false) _ e h (λ l o is. let a = list_is words l o in (false, (l, (sym is, a))))
+        mapped (λ list. record { holding = true; list = list }) _ l h (λ g o is.
+        let a = given_list_is (words_after words) g o in
+        let text = cut_is words (codes "holding") (joined (given_list_words g)) ((bytes_eq-Decides (first_word words) (codes "holding")).0 t) a.0 (omega (arith, ap length a.0)) in
+        subst (λ l. (words ≡ joined (list_words l)) × ((0 < length words) × GivenListFits l.list)) is (text ∙ sym (held_text g), (omega (arith, ap length text), a.1.1)))
+    by false t h =
+        mapped (λ list. record { holding = false; list = list }) _ l h (λ g o is. subst (λ l. (words ≡ joined (list_words l)) × ((0 < length words) × GivenListFits l.list)) is (given_list_is words g o))
 
 open_is : (words : List ℕ) (e : Entry) → open_in words ≡ Some e → (year : ℕ) × ((j : JournalKind) × ((e ≡ Open year j) × ((words ≡ natural year ++ (44 ∷ joined (journal_words j))) × ((year < 2 ^ 16) × JournalFits j))))
 open_is words e h =
@@ -190,17 +191,16 @@ named_open words e h =
     open_text year (Table participants) = refl
     open_text year (Entries records) = refl
 
-named_close : (words : List ℕ) (e : Entry) → close_in words ≡ Some e → IsText (codes "close") words e
+close_text : (holding : Bool) (l : GivenList) → entry_text (Close (record { holding = holding; list = l })) ≡ codes "close" ++ (44 ∷ joined (list_words (record { holding = holding; list = l })))
+close_text true (Flat rate) = refl
+close_text true (Quarter first rates) = refl
+close_text false (Flat rate) = refl
+close_text false (Quarter first rates) = refl
+
+named_close : (words : List ℕ) (e : Entry) → option_map Close (list_in words) ≡ Some e → IsText (codes "close") words e
 named_close words e h =
-    let o = close_is words e h in
-    let text = o.1.1.1.0 in
-    subst (IsText (codes "close") words) (sym o.1.1.0) (o.1.1.1.1.1, (ap (λ w. codes "close" ++ (44 ∷ w)) text ∙ sym (close_text o.0 o.1.0), o.1.1.1.1.0))
-  where
-    close_text : (holding : Bool) (l : GivenList) → entry_text (Close holding l) ≡ codes "close" ++ (44 ∷ joined (held_words holding l))
-    close_text true (Flat rate) = refl
-    close_text true (Quarter first rates) = refl
-    close_text false (Flat rate) = refl
-    close_text false (Quarter first rates) = refl
+    mapped Close _ e h (λ l o is. let a = list_is words l o in
+    subst (IsText (codes "close") words) is (a.1.1, (ap (λ w. codes "close" ++ (44 ∷ w)) a.0 ∙ sym (close_text l.holding l.list), a.1.0)))
 
 named_one : (name words : List ℕ) (make : ℤ → Entry) (e : Entry) → ((n : ℤ) → FitsI64 n → Fits (make n)) → ((n : ℤ) → entry_text (make n) ≡ name ++ (44 ∷ number n)) → option_map make (number_in words) ≡ Some e → IsText name words e
 named_one name words make e fits text h =

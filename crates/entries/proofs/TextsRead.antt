@@ -6,14 +6,15 @@ use Rattle.std.proofs.lemmas.Bool.{cond-true, le-leb, lt-ltb}
 use Rattle.std.proofs.lemmas.List.Elements.{All-cons, All-head, All-nil, All-tail}
 use Rattle.entries.specs.Numbers.{below, number_in, two_numbers_in, u16_in, u32_in}
 use Rattle.entries.specs.Rates.{all_of, rates_in}
-use Rattle.entries.specs.Readings.{at_most, close_by, close_in, entry_in, journal_by, journal_in, list_by, list_in, meter_reading_in, named_in, open_in, quarter_in}
-use Rattle.entries.specs.Texts.{Fits, FitsI64, JournalFits, ListFits, MeterFits, entry_text, held_words, journal_words, list_words, meter_words, natural, number}
+use Rattle.entries.specs.Readings.{at_most, entry_in, given_list_in, journal_in, list_in, meter_reading_in, named_in, open_in, quarter_in}
+use Rattle.entries.specs.Texts.{Fits, FitsI64, GivenListFits, JournalFits, MeterFits, entry_text, given_list_words, journal_words, list_words, meter_words, natural, number}
 use Rattle.entries.specs.Words.{first_word, is_comma, joined, words_after}
 use Rattle.entries.specs.declared.entry.Entry.{Entry}
 use Rattle.entries.specs.declared.entry.Entry.TheVariants.{Open, File, Post, Bill, Resettle, Pay, State, Close, Look}
 use Rattle.entries.specs.declared.entry.MeterReading.{MeterReading}
 use Rattle.entries.specs.declared.given_list.GivenList.{GivenList}
 use Rattle.entries.specs.declared.given_list.GivenList.TheVariants.{Flat, Quarter}
+use Rattle.entries.specs.declared.given_list.ListEntry.{ListEntry}
 use Rattle.entries.specs.declared.journal_kind.JournalKind.{JournalKind}
 use Rattle.entries.specs.declared.journal_kind.JournalKind.TheVariants.{Table, Entries}
 use Rattle.entries.proofs.Cutting.{NoComma, cut, number_no_comma, split_joined}
@@ -66,16 +67,25 @@ naturals_no_comma (r ∷ rs) = All-cons NoComma (natural r) (map natural rs) (nu
 rates_read : (r : ℕ) (rs : List ℕ) → All (λ rate. rate < 2 ^ 32) (r ∷ rs) → rates_in (joined (map natural (r ∷ rs))) ≡ Some (r ∷ rs)
 rates_read r rs h = ap (λ ws. all_of (map u32_in ws)) (split_joined (natural r) (map natural rs) (number_no_comma (pos r)) (naturals_no_comma rs)) ∙ each_read (r ∷ rs) h
 
-list_read : (l : GivenList) → ListFits l → list_in (joined (list_words l)) ≡ Some l
-list_read (Flat rate) h = ap (option_map Flat) (u32_read rate h)
-list_read (Quarter first []) h = absurd (omega (arith, h.1.0))
-list_read (Quarter first (r ∷ rs)) h = ap (option_map (λ p. Quarter p.0 p.1)) (cut_read u32_in rates_in (pos first) (joined (map natural (r ∷ rs))) first (r ∷ rs) (u32_read first h.0) (rates_read r rs h.1.1))
+given_list_read : (l : GivenList) → GivenListFits l → given_list_in (joined (given_list_words l)) ≡ Some l
+given_list_read (Flat rate) h = ap (option_map Flat) (u32_read rate h)
+given_list_read (Quarter first []) h = absurd (omega (arith, h.1.0))
+given_list_read (Quarter first (r ∷ rs)) h = ap (option_map (λ p. Quarter p.0 p.1)) (cut_read u32_in rates_in (pos first) (joined (map natural (r ∷ rs))) first (r ∷ rs) (u32_read first h.0) (rates_read r rs h.1.1))
 
-close_read : (holding : Bool) (l : GivenList) → ListFits l → close_in (joined (held_words holding l)) ≡ Some (Close holding l)
-close_read true (Flat rate) h = ap (option_map (Close true)) (list_read (Flat rate) h)
-close_read true (Quarter first rates) h = ap (option_map (Close true)) (list_read (Quarter first rates) h)
-close_read false (Flat rate) h = ap (option_map (Close false)) (list_read (Flat rate) h)
-close_read false (Quarter first rates) h = ap (option_map (Close false)) (list_read (Quarter first rates) h)
+abbrev entry_of : Bool → GivenList → ListEntry
+entry_of holding l = record { holding = holding; list = l }
+
+list_read : (holding : Bool) (l : GivenList) → GivenListFits l → list_in (joined (list_words (entry_of holding l))) ≡ Some (entry_of holding l)
+list_read true (Flat rate) h = ap (option_map (entry_of true)) (given_list_read (Flat rate) h)
+list_read true (Quarter first rates) h = ap (option_map (entry_of true)) (given_list_read (Quarter first rates) h)
+list_read false (Flat rate) h = ap (option_map (entry_of false)) (given_list_read (Flat rate) h)
+list_read false (Quarter first rates) h = ap (option_map (entry_of false)) (given_list_read (Quarter first rates) h)
+
+close_read : (holding : Bool) (l : GivenList) → GivenListFits l → entry_in (entry_text (Close (entry_of holding l))) ≡ Some (Close (entry_of holding l))
+close_read true (Flat rate) h = ap (option_map Close) (list_read true (Flat rate) h)
+close_read true (Quarter first rates) h = ap (option_map Close) (list_read true (Quarter first rates) h)
+close_read false (Flat rate) h = ap (option_map Close) (list_read false (Flat rate) h)
+close_read false (Quarter first rates) h = ap (option_map Close) (list_read false (Quarter first rates) h)
 
 pub text_read : (e : Entry) → Fits e → entry_in (entry_text e) ≡ Some e
 text_read (Open year (Table participants)) h = open_read year (Table participants) h.0 h.1
@@ -86,8 +96,5 @@ text_read (Bill reading) h = ap (option_map Bill) (meter_read reading h)
 text_read (Resettle reading) h = ap (option_map Resettle) (meter_read reading h)
 text_read Pay h = refl
 text_read (State project actual) h = ap (option_map (λ p. State p.0 p.1)) (two_read project actual h.0 h.1)
-text_read (Close true (Flat rate)) h = close_read true (Flat rate) h
-text_read (Close true (Quarter first rates)) h = close_read true (Quarter first rates) h
-text_read (Close false (Flat rate)) h = close_read false (Flat rate) h
-text_read (Close false (Quarter first rates)) h = close_read false (Quarter first rates) h
+text_read (Close l) h = close_read l.holding l.list h
 text_read (Look project) h = ap (option_map Look) (number_read project h)

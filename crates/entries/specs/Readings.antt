@@ -10,6 +10,7 @@ use Rattle.entries.specs.declared.entry.Entry.TheVariants.{Open, File, Post, Bil
 use Rattle.entries.specs.declared.entry.MeterReading.{MeterReading}
 use Rattle.entries.specs.declared.given_list.GivenList.{GivenList}
 use Rattle.entries.specs.declared.given_list.GivenList.TheVariants.{Flat, Quarter}
+use Rattle.entries.specs.declared.given_list.ListEntry.{ListEntry}
 use Rattle.entries.specs.declared.journal_kind.JournalKind.{JournalKind}
 use Rattle.entries.specs.declared.journal_kind.JournalKind.TheVariants.{Table, Entries}
 
@@ -34,20 +35,20 @@ meter_reading_in words = option_map (λ p. record { participant = p.0; month = p
 abbrev pub quarter_in : List ℕ → Option GivenList
 quarter_in words = option_map (λ p. Quarter p.0 p.1) (option_zip (u32_in (first_word words)) (rates_in (words_after words)))
 
-abbrev pub list_by : List ℕ → List ℕ → Option GivenList
-list_by kind words =
+abbrev pub given_list_by : List ℕ → List ℕ → Option GivenList
+given_list_by kind words =
     cond (bytes_eq kind (codes "flat")) (option_map Flat (u32_in words))
     (cond (bytes_eq kind (codes "quarter")) (quarter_in words)
     None)
 
-abbrev pub list_in : List ℕ → Option GivenList
-list_in words = list_by (first_word words) (words_after words)
+abbrev pub given_list_in : List ℕ → Option GivenList
+given_list_in words = given_list_by (first_word words) (words_after words)
 
-abbrev pub close_by : Bool → List ℕ → Option Entry
-close_by holding words = option_map (Close holding) (list_in words)
+abbrev pub list_by : Bool → List ℕ → Option ListEntry
+list_by holding words = option_map (λ list. record { holding = holding; list = list }) (given_list_in words)
 
-abbrev pub close_in : List ℕ → Option Entry
-close_in words = let holding = bytes_eq (first_word words) (codes "holding") in close_by holding (cond holding (words_after words) words)
+abbrev pub list_in : List ℕ → Option ListEntry
+list_in words = let holding = bytes_eq (first_word words) (codes "holding") in list_by holding (cond holding (words_after words) words)
 
 abbrev pub named_in : List ℕ → List ℕ → Option Entry
 named_in name words =
@@ -57,7 +58,7 @@ named_in name words =
     (cond (bytes_eq name (codes "bill")) (option_map Bill (meter_reading_in words))
     (cond (bytes_eq name (codes "resettle")) (option_map Resettle (meter_reading_in words))
     (cond (bytes_eq name (codes "state")) (option_map (λ p. State p.0 p.1) (two_numbers_in words))
-    (cond (bytes_eq name (codes "close")) (close_in words)
+    (cond (bytes_eq name (codes "close")) (option_map Close (list_in words))
     (cond (bytes_eq name (codes "look")) (option_map Look (number_in words))
     None)))))))
 

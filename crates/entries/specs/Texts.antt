@@ -9,6 +9,7 @@ use Rattle.entries.specs.declared.entry.Entry.TheVariants.{Open, File, Post, Bil
 use Rattle.entries.specs.declared.entry.MeterReading.{MeterReading}
 use Rattle.entries.specs.declared.given_list.GivenList.{GivenList}
 use Rattle.entries.specs.declared.given_list.GivenList.TheVariants.{Flat, Quarter}
+use Rattle.entries.specs.declared.given_list.ListEntry.{ListEntry}
 use Rattle.entries.specs.declared.journal_kind.JournalKind.{JournalKind}
 use Rattle.entries.specs.declared.journal_kind.JournalKind.TheVariants.{Table, Entries}
 
@@ -26,12 +27,12 @@ journal_words (Entries records) = codes "entries" ∷ natural records ∷ []
 abbrev pub meter_words : MeterReading → List (List ℕ)
 meter_words r = number r.participant ∷ number r.month ∷ number r.kwh ∷ []
 
-abbrev pub list_words : GivenList → List (List ℕ)
-list_words (Flat rate) = codes "flat" ∷ natural rate ∷ []
-list_words (Quarter first rates) = codes "quarter" ∷ natural first ∷ map natural rates
+abbrev pub given_list_words : GivenList → List (List ℕ)
+given_list_words (Flat rate) = codes "flat" ∷ natural rate ∷ []
+given_list_words (Quarter first rates) = codes "quarter" ∷ natural first ∷ map natural rates
 
-abbrev pub held_words : Bool → GivenList → List (List ℕ)
-held_words holding list = cond holding (codes "holding" ∷ list_words list) (list_words list)
+abbrev pub list_words : ListEntry → List (List ℕ)
+list_words l = cond l.holding (codes "holding" ∷ given_list_words l.list) (given_list_words l.list)
 
 abbrev pub entry_words : Entry → List (List ℕ)
 entry_words (Open year journal) = codes "open" ∷ natural year ∷ journal_words journal
@@ -41,7 +42,7 @@ entry_words (Bill reading) = codes "bill" ∷ meter_words reading
 entry_words (Resettle reading) = codes "resettle" ∷ meter_words reading
 entry_words Pay = codes "pay" ∷ []
 entry_words (State project actual) = codes "state" ∷ number project ∷ number actual ∷ []
-entry_words (Close holding list) = codes "close" ∷ held_words holding list
+entry_words (Close list) = codes "close" ∷ list_words list
 entry_words (Look project) = codes "look" ∷ number project ∷ []
 
 abbrev pub entry_text : Entry → List ℕ
@@ -58,9 +59,9 @@ JournalFits (Entries records) = records ≤ 1000000
 abbrev pub MeterFits : MeterReading → Type 0
 MeterFits r = FitsI64 r.participant × (FitsI64 r.month × FitsI64 r.kwh)
 
-abbrev pub ListFits : GivenList → Type 0
-ListFits (Flat rate) = rate < 2 ^ 32
-ListFits (Quarter first rates) = (first < 2 ^ 32) × ((0 < length rates) × All (λ rate. rate < 2 ^ 32) rates)
+abbrev pub GivenListFits : GivenList → Type 0
+GivenListFits (Flat rate) = rate < 2 ^ 32
+GivenListFits (Quarter first rates) = (first < 2 ^ 32) × ((0 < length rates) × All (λ rate. rate < 2 ^ 32) rates)
 
 -- its numbers are within their ranges, and a quarter list has a rate
 abbrev pub Fits : Entry → Type 0
@@ -71,5 +72,5 @@ Fits (Bill reading) = MeterFits reading
 Fits (Resettle reading) = MeterFits reading
 Fits Pay = Unit {0}
 Fits (State project actual) = FitsI64 project × FitsI64 actual
-Fits (Close holding list) = ListFits list
+Fits (Close list) = GivenListFits list.list
 Fits (Look project) = FitsI64 project

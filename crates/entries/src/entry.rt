@@ -1,4 +1,4 @@
-use crate::given_list::GivenList;
+use crate::given_list::ListEntry;
 use crate::journal_kind::JournalKind;
 
 /// The kilowatt-hours of a participant and a month.
@@ -19,6 +19,6 @@ pub enum Entry<'a> {
     Resettle(MeterReading),
     Pay,
     State { project: i64, actual: i64 },
-    Close { holding: bool, list: GivenList<'a> },
+    Close(ListEntry<'a>),
     Look { project: i64 },
 }

@@ -2,9 +2,19 @@ ghost use Rattle.std.specs.Prelude.{◌≡◌};
 ghost use Rattle.entries.specs.Rates.{rates_in};
 
 use crate::numbers::number_u32;
+use rates::{FlatList, HoldingList, NamedList, QuarterList};
+use std::alloc::{AllocError, Global};
 use std::marker::Model;
 
-/// A rate list as an entry gives it, below any holding.
+/// A rate list as an entry gives it.
+#[derive(Drop)]
+pub struct ListEntry<'a> {
+    /// Whether it holds the rates of the list.
+    pub holding: bool,
+    pub list: GivenList<'a>,
+}
+
+/// A list below any holding.
 #[derive(Drop)]
 pub enum GivenList<'a> {
     /// `flat,RATE`
@@ -28,6 +38,50 @@ impl<'a> Model for GivenRates<'a> {
     ghost view = { λ r. rates_of r.words.now };
 
     ghost invariant = { λ r. IsSome (rates_in r.words.now) };
+}
+
+impl<'a> GivenRates<'a> {
+    ghost use Rattle.std.specs.Prelude.{◌≡◌, IfOk};
+
+    /// The rates in memory of their own.
+    pub fn to_vec(&self, alloc: Global) -> Result<Vec<u32>, AllocError>
+        ensures { IfOk result (λ run. run.items ≡ self.now) }
+    {
+        self.words
+            .split(',')
+            .filter_map(|word| number_u32(word))
+            .collect(alloc)
+    }
+}
+
+impl<'a> ListEntry<'a> {
+    ghost use Rattle.std.specs.Prelude.{◌≡◌, IfOk};
+    ghost use Rattle.rates.specs.Named.{named_rates};
+    ghost use Rattle.entries.specs.Lists.{rates_given};
+
+    /// The list that is named.
+    pub fn named(&self, alloc: Global) -> Result<NamedList, AllocError>
+        ensures { IfOk result (λ list. named_rates list ≡ rates_given self.now) }
+    {
+        Ok(match &self.list {
+            GivenList::Flat(rate) => {
+                let list = FlatList::new(*rate);
+                if self.holding {
+                    NamedList::HoldingFlat(HoldingList::new(list))
+                } else {
+                    NamedList::Flat(list)
+                }
+            }
+            GivenList::Quarter { first, rates } => {
+                let list = QuarterList::new(*first, rates.to_vec(alloc)?);
+                if self.holding {
+                    NamedList::HoldingQuarter(HoldingList::new(list))
+                } else {
+                    NamedList::Quarter(list)
+                }
+            }
+        })
+    }
 }
 
 /// The rates of words.

@@ -10,6 +10,6 @@ mod reading;
 mod words;
 
 pub use entry::{Entry, MeterReading};
-pub use given_list::{GivenList, GivenRates};
+pub use given_list::{GivenList, GivenRates, ListEntry};
 pub use journal_kind::JournalKind;
 pub use line::{Line, read_line};

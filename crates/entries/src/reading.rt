@@ -1,8 +1,8 @@
 ghost use Rattle.std.specs.Prelude.{◌≡◌};
-ghost use Rattle.entries.specs.Readings.{journal_in, list_in, meter_reading_in, named_in, entry_in, close_in, open_in};
+ghost use Rattle.entries.specs.Readings.{entry_in, given_list_in, journal_in, list_in, meter_reading_in, named_in, open_in};
 
 use crate::entry::{Entry, MeterReading};
-use crate::given_list::{GivenList, read_rates};
+use crate::given_list::{GivenList, ListEntry, read_rates};
 use crate::journal_kind::JournalKind;
 use crate::numbers::{number, number_u16, number_u32, two_numbers};
 use crate::words::split_word;
@@ -47,8 +47,8 @@ fn read_meter_reading(words: &str) -> Option<MeterReading>
 }
 
 /// A list below any holding.
-fn read_list(words: &str) -> Option<GivenList<'_>>
-    ensures { result ≡ list_in words.now }
+fn read_given_list(words: &str) -> Option<GivenList<'_>>
+    ensures { result ≡ given_list_in words.now }
 {
     let (kind, others) = split_word(words);
     match kind {
@@ -64,15 +64,17 @@ fn read_list(words: &str) -> Option<GivenList<'_>>
     }
 }
 
-fn read_close(words: &str) -> Option<Entry<'_>>
-    ensures { result ≡ close_in words.now }
+fn read_list(words: &str) -> Option<ListEntry<'_>>
+    ensures { result ≡ list_in words.now }
 {
     let (holding, list) = match split_word(words) {
         ("holding", held) => (true, held),
         _ => (false, words),
     };
-    let list = read_list(list)?;
-    Some(Entry::Close { holding, list })
+    Some(ListEntry {
+        holding,
+        list: read_given_list(list)?,
+    })
 }
 
 /// The entry with this name and these words after it.
@@ -97,7 +99,7 @@ fn read_named<'a>(name: &str, words: &'a str) -> Option<Entry<'a>>
             let (project, actual) = two_numbers(words)?;
             Some(Entry::State { project, actual })
         }
-        "close" => read_close(words),
+        "close" => Some(Entry::Close(read_list(words)?)),
         "look" => Some(Entry::Look {
             project: number(words)?,
         }),

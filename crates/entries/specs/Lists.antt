@@ -1,0 +1,15 @@
+-- What the list of an entry means.
+use Rattle.std.specs.Prelude.{cond}
+use Rattle.rates.specs.Rates.{Rates}
+use Rattle.rates.specs.Given.{flat, quarterly}
+use Rattle.rates.specs.Holding.{held}
+use Rattle.entries.specs.declared.given_list.GivenList.{GivenList}
+use Rattle.entries.specs.declared.given_list.GivenList.TheVariants.{Flat, Quarter}
+use Rattle.entries.specs.declared.given_list.ListEntry.{ListEntry}
+
+abbrev pub given_rates : GivenList → Rates
+given_rates (Flat rate) = flat rate
+given_rates (Quarter first rates) = quarterly first rates
+
+abbrev pub rates_given : ListEntry → Rates
+rates_given l = cond l.holding (held (given_rates l.list)) (given_rates l.list)
