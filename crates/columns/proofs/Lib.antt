@@ -1,5 +1,5 @@
 pub mod Digits
 pub mod Laws
-mod Library
+pub mod Library
 pub mod Spelling
 pub mod Widths

@@ -40,11 +40,11 @@ digits_onto-append = by_digits (λ m ds. (k : ℕ) (acc : List ℕ) → m < 10 ^
         let some : eqb (m / 10) 0 ≡ false = ne_eqb _ _ (λ e. omega arith) in
         rw (some, glyph (m % 10) (omega arith), h k ((48 + m % 10) ∷ acc) (omega arith)) (sym (append_assoc ds ((48 + m % 10) ∷ []) acc))
 
-decimal_is : (m : ℕ) → m < 2 ^ 128 → decimal m ≡ digits_of m
+pub decimal_is : (m : ℕ) → m < 2 ^ 128 → decimal m ≡ digits_of m
 unfolding digits
 decimal_is m h = digits_onto-append m 63 [] (omega arith) ∙ append-nil (digits_of m)
 
-signed_decimal_is : (n : ℤ) → SFits w128 n → signed_decimal n ≡ text_of n
+pub signed_decimal_is : (n : ℤ) → SFits w128 n → signed_decimal n ≡ text_of n
 signed_decimal_is (pos m) h = decimal_is m (omega (arith, h.sfits)) ∙ sym (text_at_least_zero m)
 signed_decimal_is (negsuc m) h = ap (λ ds. 45 ∷ ds) (decimal_is (suc m) (omega (arith, h.sfits)))
 

@@ -5,3 +5,4 @@ mod Cutting
 mod TextsRead
 mod ReadsText
 mod Laws
+mod Decimals

@@ -5,3 +5,4 @@ pub mod Lists
 pub mod Texts
 pub mod Readings
 pub mod Lines
+pub mod Answers

@@ -1,6 +1,8 @@
 //! The lines of a daybook: a line's text to its entry, and an answer to its text.
 #![tactic(auto)]
 
+mod amount;
+mod answer;
 mod entry;
 mod given_list;
 mod journal_kind;
@@ -9,6 +11,7 @@ mod numbers;
 mod reading;
 mod words;
 
+pub use answer::{Answer, YearAnswer};
 pub use entry::{Entry, MeterReading};
 pub use given_list::{GivenList, GivenRates, ListEntry};
 pub use journal_kind::JournalKind;

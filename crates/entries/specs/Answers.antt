@@ -1,0 +1,69 @@
+-- The text of an answer: its words, a space between each two.
+use Rattle.std.specs.Prelude.{ℕ, List, [], ◌∷◌, ◌++◌, ℤ, pos, Some, None, Option, codes}
+use Rattle.std.specs.List.{join_with_byte}
+use Rattle.settlement.specs.Refusals.{number_of}
+use Rattle.settlement.specs.declared.account.Filed as account
+use Rattle.settlement.specs.declared.row_answer.RowAnswer.{RowAnswer}
+use Rattle.settlement.specs.declared.state.State.{State}
+use Rattle.settlement.specs.declared.state.State.TheVariants.{Draft, Posted}
+use Rattle.entries.specs.Texts.{natural, number}
+use Rattle.entries.specs.declared.answer.Answer.{Answer}
+use Rattle.entries.specs.declared.answer.Answer.TheVariants.{Opened, Filed, Rate, Charge, Change, Paid, Stated, Closed, Row, Refused, Unread, Year}
+use Rattle.entries.specs.declared.answer.YearAnswer.{YearAnswer}
+
+abbrev pub spaced : List (List ℕ) → List ℕ
+spaced words = join_with_byte 32 words
+
+-- an amount, or a hyphen where there is none
+abbrev pub amount : Option ℤ → List ℕ
+amount None = codes "-"
+amount (Some n) = number n
+
+abbrev pub filed_words : account.Filed → List (List ℕ)
+filed_words f = codes "requirement" ∷ amount f.requirement ∷ codes "actual" ∷ amount f.actual ∷ []
+
+abbrev pub row_words : RowAnswer → List (List ℕ)
+row_words r =
+    natural r.project
+    ∷ codes "due-now"
+    ∷ number r.due_now
+    ∷ codes "due-next"
+    ∷ number r.due_next
+    ∷ codes "paid"
+    ∷ number r.paid
+    ∷ codes "kept"
+    ∷ number r.kept
+    ∷ filed_words (record { requirement = r.requirement; actual = r.actual })
+
+abbrev pub state_words : State → List (List ℕ)
+state_words Draft = codes "draft" ∷ []
+state_words (Posted rate) = codes "posted" ∷ number rate ∷ []
+
+abbrev pub year_words : YearAnswer → List (List ℕ)
+year_words a = natural a.year ∷ (state_words a.state ++ (codes "money" ∷ number a.money ∷ codes "till" ∷ number a.till ∷ []))
+
+abbrev pub filed_text : account.Filed → List ℕ
+filed_text f = spaced (filed_words f)
+
+abbrev pub row_text : RowAnswer → List ℕ
+row_text r = spaced (row_words r)
+
+abbrev pub year_text : YearAnswer → List ℕ
+year_text a = spaced (year_words a)
+
+abbrev pub answer_words : Answer → List (List ℕ)
+answer_words (Opened year) = codes "opened" ∷ natural year ∷ []
+answer_words Filed = codes "filed" ∷ []
+answer_words (Rate rate) = codes "rate" ∷ number rate ∷ []
+answer_words (Charge charge) = codes "charge" ∷ number charge ∷ []
+answer_words (Change change) = codes "change" ∷ number change ∷ []
+answer_words (Paid change till) = codes "paid" ∷ number change ∷ codes "till" ∷ number till ∷ []
+answer_words Stated = codes "stated" ∷ []
+answer_words (Closed year) = codes "closed" ∷ natural year ∷ []
+answer_words (Row row) = codes "row" ∷ row_words row
+answer_words (Refused refusal) = codes "refused" ∷ natural (number_of refusal) ∷ []
+answer_words Unread = codes "unread" ∷ []
+answer_words (Year year) = codes "year" ∷ year_words year
+
+abbrev pub answer_text : Answer → List ℕ
+answer_text a = spaced (answer_words a)

@@ -1,0 +1,128 @@
+use crate::amount::Amount;
+use settlement::{Filed, Refusal, RowAnswer, State};
+use std::fmt;
+
+/// What a book answers an entry, and how its year stands.
+#[derive(Clone, Copy, PartialEq, Eq, Debug)]
+pub enum Answer {
+    Opened { year: u16 },
+    Filed,
+    Rate(i64),
+    Charge(i64),
+    Change(i64),
+    Paid { change: i64, till: i64 },
+    Stated,
+    Closed { year: u16 },
+    Row(RowAnswer),
+    Refused(Refusal),
+    Unread,
+    Year(YearAnswer),
+}
+
+/// A book's year, its state, its money and its till.
+#[derive(Clone, Copy, PartialEq, Eq, Debug)]
+pub struct YearAnswer {
+    pub year: u16,
+    pub state: State,
+    pub money: i64,
+    pub till: i64,
+}
+
+impl fmt::Display for Answer {
+    ghost use Rattle.std.specs.Prelude.{Some};
+    ghost use Rattle.entries.specs.Answers.{answer_text};
+
+    ghost output = { λ answer. Some (answer_text answer) };
+
+    #[tactic(auto, using(crate::proofs::Decimals::shown))]
+    fn fmt<W: fmt::Write>(&self, f: &mut fmt::Formatter<W>) -> fmt::Result {
+        match *self {
+            Answer::Opened { year } => write!(f, "opened {year}"),
+            Answer::Filed => write!(f, "filed"),
+            Answer::Rate(rate) => write!(f, "rate {rate}"),
+            Answer::Charge(charge) => write!(f, "charge {charge}"),
+            Answer::Change(change) => write!(f, "change {change}"),
+            Answer::Paid { change, till } => write!(f, "paid {change} till {till}"),
+            Answer::Stated => write!(f, "stated"),
+            Answer::Closed { year } => write!(f, "closed {year}"),
+            Answer::Row(row) => write!(f, "row {}", RowText(row)),
+            Answer::Refused(refusal) => write!(f, "refused {}", refusal.number()),
+            Answer::Unread => write!(f, "unread"),
+            Answer::Year(year) => write!(f, "year {}", YearText(year)),
+        }
+    }
+}
+
+/// A row's numbers, each after its name.
+#[derive(Clone, Copy)]
+struct RowText(RowAnswer);
+
+impl fmt::Display for RowText {
+    ghost use Rattle.std.specs.Prelude.{Some};
+    ghost use Rattle.entries.specs.Answers.{row_text};
+
+    ghost output = { λ row. Some (row_text row.0) };
+
+    #[tactic(auto, using(crate::proofs::Decimals::shown))]
+    fn fmt<W: fmt::Write>(&self, f: &mut fmt::Formatter<W>) -> fmt::Result {
+        let RowAnswer {
+            project,
+            due_now,
+            due_next,
+            paid,
+            kept,
+            requirement,
+            actual,
+        } = self.0;
+        let filed = FiledText(Filed {
+            requirement,
+            actual,
+        });
+        write!(
+            f,
+            "{project} due-now {due_now} due-next {due_next} paid {paid} kept {kept} {filed}"
+        )
+    }
+}
+
+/// What is filed and stated, each after its name.
+#[derive(Clone, Copy)]
+struct FiledText(Filed);
+
+impl fmt::Display for FiledText {
+    ghost use Rattle.std.specs.Prelude.{Some};
+    ghost use Rattle.entries.specs.Answers.{filed_text};
+
+    ghost output = { λ filed. Some (filed_text filed.0) };
+
+    fn fmt<W: fmt::Write>(&self, f: &mut fmt::Formatter<W>) -> fmt::Result {
+        let requirement = Amount(self.0.requirement);
+        let actual = Amount(self.0.actual);
+        write!(f, "requirement {requirement} actual {actual}")
+    }
+}
+
+/// A year's numbers, each after its name.
+#[derive(Clone, Copy)]
+struct YearText(YearAnswer);
+
+impl fmt::Display for YearText {
+    ghost use Rattle.std.specs.Prelude.{Some};
+    ghost use Rattle.entries.specs.Answers.{year_text};
+
+    ghost output = { λ year. Some (year_text year.0) };
+
+    #[tactic(auto, using(crate::proofs::Decimals::shown))]
+    fn fmt<W: fmt::Write>(&self, f: &mut fmt::Formatter<W>) -> fmt::Result {
+        let YearAnswer {
+            year,
+            state,
+            money,
+            till,
+        } = self.0;
+        match state {
+            State::Draft => write!(f, "{year} draft money {money} till {till}"),
+            State::Posted(rate) => write!(f, "{year} posted {rate} money {money} till {till}"),
+        }
+    }
+}
