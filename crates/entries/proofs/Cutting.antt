@@ -1,8 +1,8 @@
--- A text is cut at its commas into just the words that it was joined of.
+-- Joined words are cut into just those words.
 use Rattle.std.proofs.Common.{◌≡◌, ℕ, zero, suc, ◌+◌, ◌<◌, ◌≤◌, true, false, not, cond, eqb, ltb, List, [], ◌∷◌, ◌++◌, length, get_or, take, drop, ℤ, pos, negsuc, Some, sym, refl, ap, ◌∙◌, subst, add-one, drop-cons, ◌/◌, ◌%◌, arith}
 use Rattle.std.specs.List.{All, join_with_byte, position, position_or_len, slice_split}
 use Rattle.std.proofs.Math.Seq.{drop-append-add}
-use Rattle.std.proofs.lemmas.Bool.{cond-true, eqb-true, lt-ltb, ne_eqb}
+use Rattle.std.proofs.lemmas.Bool.{cond-true, eq-eqb, eqb-true, lt-ltb, ne_eqb}
 use Rattle.std.proofs.lemmas.List.{drop_at, drop-drop, length-append, length-drop, take_all, take-append-drop, take_at}
 use Rattle.std.proofs.lemmas.List.Elements.{All-append, All-cons, All-head, All-nil, All-push, All-tail}
 use Rattle.std.proofs.lemmas.List.Quantifiers.{position-Some}
@@ -13,8 +13,12 @@ use Rattle.columns.proofs.Spelling.{text_at_least_zero}
 use Rattle.entries.specs.Texts.{number}
 use Rattle.entries.specs.Words.{first_word, is_comma, joined, words_after}
 
+-- no byte of the word is this one
+abbrev pub Lacks : ℕ → List ℕ → Type 0
+Lacks c word = All (λ b. eqb b c ≡ false) word
+
 abbrev pub NoComma : List ℕ → Type 0
-NoComma word = All (λ b. is_comma b ≡ false) word
+NoComma word = Lacks 44 word
 
 comma_at : (word rest : List ℕ) → NoComma word → position_or_len is_comma (word ++ (44 ∷ rest)) ≡ length word
 comma_at [] rest h = refl
@@ -38,21 +42,25 @@ cut_is text word rest f w some =
     let is : get_or text at 0 ≡ 44 = eqb-true _ 44 (position-Some is_comma text at 0 found).1 in
     sym (take-append-drop at text) ∙ (λ i. take at text ++ (drop-cons text at 0 within ∙ (λ j. is j ∷ drop (sym (add-one at) j) text)) i) ∙ (λ i. f i ++ (44 ∷ w i))
 
-pub digits_no_comma : (m : ℕ) → NoComma (digits_of m)
-digits_no_comma = by_digits (λ m ds. NoComma ds)
-    (λ m l. All-cons (λ b. is_comma b ≡ false) (48 + m) [] (ne_eqb _ _ (λ e. omega arith)) (All-nil (λ b. is_comma b ≡ false)))
-    (λ m ds l h. All-push (λ b. is_comma b ≡ false) ds (48 + m % 10) h (ne_eqb _ _ (λ e. omega arith)))
+module _ (c : ℕ) (small : c < 45) where
+  digits_lack : (m : ℕ) → Lacks c (digits_of m)
+  digits_lack = by_digits (λ m ds. Lacks c ds)
+      (λ m l. All-cons (λ b. eqb b c ≡ false) (48 + m) [] (ne_eqb _ _ (λ e. omega arith)) (All-nil (λ b. eqb b c ≡ false)))
+      (λ m ds l h. All-push (λ b. eqb b c ≡ false) ds (48 + m % 10) h (ne_eqb _ _ (λ e. omega arith)))
+
+  pub number_lacks : (n : ℤ) → Lacks c (number n)
+  number_lacks (pos m) = subst (Lacks c) (sym (text_at_least_zero m)) (digits_lack m)
+  number_lacks (negsuc m) = All-cons (λ b. eqb b c ≡ false) 45 (digits_of (suc m)) (ne_eqb _ _ (λ e. omega arith)) (digits_lack (suc m))
 
 pub number_no_comma : (n : ℤ) → NoComma (number n)
-number_no_comma (pos m) = subst NoComma (sym (text_at_least_zero m)) (digits_no_comma m)
-number_no_comma (negsuc m) = All-cons (λ b. is_comma b ≡ false) 45 (digits_of (suc m)) refl (digits_no_comma (suc m))
+number_no_comma n = number_lacks 44 (omega arith) n
 
 pub number_some : (n : ℤ) → 0 < length (number n)
 number_some (pos m) = subst (λ ds. 0 < length ds) (sym (text_at_least_zero m)) (some_digit m)
 number_some (negsuc m) = omega arith
 
--- the words of joined words
-pub split_joined : (word : List ℕ) (others : List (List ℕ)) → NoComma word → All NoComma others → slice_split is_comma (joined (word ∷ others)) ≡ word ∷ others
-split_joined word [] h hs = slice_split_none is_comma word h
-split_joined word (next ∷ others) h hs =
-    slice_split_at is_comma word 44 (joined (next ∷ others)) h refl ∙ ap (λ ws. word ∷ ws) (split_joined next others (All-head NoComma next others hs) (All-tail NoComma next others hs))
+-- joined words are split into just those words
+pub split_joined : (c : ℕ) (word : List ℕ) (others : List (List ℕ)) → Lacks c word → All (Lacks c) others → slice_split (λ b. eqb b c) (join_with_byte c (word ∷ others)) ≡ word ∷ others
+split_joined c word [] h hs = slice_split_none (λ b. eqb b c) word h
+split_joined c word (next ∷ others) h hs =
+    slice_split_at (λ b. eqb b c) word c (join_with_byte c (next ∷ others)) h (eq-eqb c c refl) ∙ ap (λ ws. word ∷ ws) (split_joined c next others (All-head (Lacks c) next others hs) (All-tail (Lacks c) next others hs))

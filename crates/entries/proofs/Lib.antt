@@ -6,3 +6,4 @@ mod TextsRead
 mod ReadsText
 mod Laws
 mod Decimals
+mod AnswersBack

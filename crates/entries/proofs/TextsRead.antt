@@ -65,7 +65,7 @@ naturals_no_comma [] = All-nil NoComma
 naturals_no_comma (r ∷ rs) = All-cons NoComma (natural r) (map natural rs) (number_no_comma (pos r)) (naturals_no_comma rs)
 
 rates_read : (r : ℕ) (rs : List ℕ) → All (λ rate. rate < 2 ^ 32) (r ∷ rs) → rates_in (joined (map natural (r ∷ rs))) ≡ Some (r ∷ rs)
-rates_read r rs h = ap (λ ws. all_of (map u32_in ws)) (split_joined (natural r) (map natural rs) (number_no_comma (pos r)) (naturals_no_comma rs)) ∙ each_read (r ∷ rs) h
+rates_read r rs h = ap (λ ws. all_of (map u32_in ws)) (split_joined 44 (natural r) (map natural rs) (number_no_comma (pos r)) (naturals_no_comma rs)) ∙ each_read (r ∷ rs) h
 
 given_list_read : (l : GivenList) → GivenListFits l → given_list_in (joined (given_list_words l)) ≡ Some l
 given_list_read (Flat rate) h = ap (option_map Flat) (u32_read rate h)

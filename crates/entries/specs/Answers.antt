@@ -1,5 +1,5 @@
 -- The text of an answer: its words, a space between each two.
-use Rattle.std.specs.Prelude.{ℕ, List, [], ◌∷◌, ◌++◌, ℤ, pos, Some, None, Option, codes}
+use Rattle.std.specs.Prelude.{◌≡◌, ℕ, List, [], ◌∷◌, ◌++◌, ℤ, pos, Some, None, Option, codes}
 use Rattle.std.specs.List.{join_with_byte}
 use Rattle.settlement.specs.Refusals.{number_of}
 use Rattle.settlement.specs.declared.account.Filed as account
@@ -67,3 +67,7 @@ answer_words (Year year) = codes "year" ∷ year_words year
 
 abbrev pub answer_text : Answer → List ℕ
 answer_text a = spaced (answer_words a)
+
+-- no two answers have the same text
+abbrev pub OneAnswer : Type 0
+OneAnswer = (a b : Answer) → answer_text a ≡ answer_text b → a ≡ b
