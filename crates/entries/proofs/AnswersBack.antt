@@ -1,5 +1,5 @@
 -- An answer is told from its text, so no two have the same.
-use Rattle.std.proofs.Common.{◌≡◌, ℕ, ◌<◌, Bool, true, false, cond, eqb, not, List, [], ◌∷◌, ◌++◌, ℤ, pos, nat_abs, Option, Some, None, codes, refl, sym, ap, ◌∙◌, ⊎_elim, arith, length, get_or}
+use Rattle.std.proofs.Common.{◌≡◌, ℕ, ◌<◌, Bool, true, false, cond, eqb, not, List, [], ◌∷◌, ℤ, pos, nat_abs, Option, Some, None, codes, refl, sym, ap, ◌∙◌, ⊎_elim, arith, length, get_or}
 use Rattle.std.specs.List.{AllByRecursion, join_with_byte, list_all, slice_split}
 use Rattle.std.specs.Str.{bytes_eq}
 use Rattle.std.specs.Str.Parse.{signed_digits_value}
@@ -15,7 +15,7 @@ use Rattle.settlement.specs.declared.refusal.Refusal.TheVariants.{ProjectNumberO
 use Rattle.settlement.specs.declared.row_answer.RowAnswer.{RowAnswer}
 use Rattle.settlement.specs.declared.state.State.{State}
 use Rattle.settlement.specs.declared.state.State.TheVariants.{Draft, Posted}
-use Rattle.entries.specs.Answers.{OneAnswer, amount, answer_text, answer_words, filed_words, row_words, state_words, year_words}
+use Rattle.entries.specs.Answers.{OneAnswer, amount, answer_text, answer_words, filed_words, row_words, year_words}
 use Rattle.entries.specs.Texts.{natural, number}
 use Rattle.entries.specs.declared.answer.Answer.{Answer}
 use Rattle.entries.specs.declared.answer.Answer.TheVariants.{Opened, Filed, Rate, Charge, Change, Paid, Stated, Closed, Row, Refused, Unread, Year}

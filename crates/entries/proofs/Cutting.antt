@@ -1,17 +1,17 @@
 -- Joined words are cut into just those words.
-use Rattle.std.proofs.Common.{◌≡◌, ℕ, zero, suc, ◌+◌, ◌<◌, ◌≤◌, true, false, not, cond, eqb, ltb, List, [], ◌∷◌, ◌++◌, length, get_or, take, drop, ℤ, pos, negsuc, Some, sym, refl, ap, ◌∙◌, subst, add-one, drop-cons, ◌/◌, ◌%◌, arith}
+use Rattle.std.proofs.Common.{◌≡◌, ℕ, suc, ◌+◌, ◌<◌, false, not, cond, eqb, ltb, List, [], ◌∷◌, ◌++◌, length, get_or, take, drop, ℤ, pos, negsuc, Some, sym, refl, ap, ◌∙◌, subst, add-one, drop-cons, ◌%◌, arith}
 use Rattle.std.specs.List.{All, join_with_byte, position, position_or_len, slice_split}
 use Rattle.std.proofs.Math.Seq.{drop-append-add}
 use Rattle.std.proofs.lemmas.Bool.{cond-true, eq-eqb, eqb-true, lt-ltb, ne_eqb}
-use Rattle.std.proofs.lemmas.List.{drop_at, drop-drop, length-append, length-drop, take_all, take-append-drop, take_at}
-use Rattle.std.proofs.lemmas.List.Elements.{All-append, All-cons, All-head, All-nil, All-push, All-tail}
+use Rattle.std.proofs.lemmas.List.{length-drop, take-append-drop, take_at}
+use Rattle.std.proofs.lemmas.List.Elements.{All-cons, All-head, All-nil, All-push, All-tail}
 use Rattle.std.proofs.lemmas.List.Quantifiers.{position-Some}
 use Rattle.std.proofs.lemmas.List.Splits.{slice_split_at, slice_split_none}
 use Rattle.columns.specs.Texts.{digits_of}
 use Rattle.columns.proofs.Digits.{by_digits, some_digit}
 use Rattle.columns.proofs.Spelling.{text_at_least_zero}
 use Rattle.entries.specs.Texts.{number}
-use Rattle.entries.specs.Words.{first_word, is_comma, joined, words_after}
+use Rattle.entries.specs.Words.{first_word, is_comma, words_after}
 
 -- no byte of the word is this one
 abbrev pub Lacks : ℕ → List ℕ → Type 0

@@ -1,6 +1,6 @@
 -- The library writes a number as its text.
-use Rattle.std.proofs.Common.{◌≡◌, ℕ, ◌^◌, ◌<◌, ℤ, pos, sym, ap, ◌∙◌, arith, SFits, to_z, of_z}
-use mir.Syntax.{w64, w128}
+use Rattle.std.proofs.Common.{◌≡◌, ℕ, ◌^◌, ◌<◌, ℤ, sym, ap, ◌∙◌, arith, SFits, to_z, of_z}
+use mir.Syntax.{w64}
 use Rattle.std.specs.Fmt.{decimal, signed_decimal}
 use Rattle.std.proofs.lemmas.Int.{to_z-of_z}
 use Rattle.columns.proofs.Library.{decimal_is, signed_decimal_is}

@@ -1,9 +1,9 @@
 -- A line is read as the entry whose text it is.
 use Rattle.std.proofs.Common.{◌≡◌, ℕ, Bool, true, false, cond, List, Option, Some, None, refl, sym, ap, ◌∙◌}
 use Rattle.std.specs.Str.Lines.{strip_carriage_return}
-use Rattle.std.proofs.lemmas.Bool.{cases_Bool, cond-false, cond-true, false≢true}
+use Rattle.std.proofs.lemmas.Bool.{cond-false, cond-true}
 use Rattle.std.proofs.lemmas.Option.{same_Some}
-use Rattle.entries.specs.Lines.{IsTextOf, ReadsEntryTexts, entry_or_unread, line_in, passed_over, text_in}
+use Rattle.entries.specs.Lines.{ReadsEntryTexts, entry_or_unread, line_in, passed_over, text_in}
 use Rattle.entries.specs.Readings.{entry_in}
 use Rattle.entries.specs.Texts.{Fits, entry_text}
 use Rattle.entries.specs.declared.entry.Entry as entry
@@ -11,8 +11,7 @@ use Rattle.entries.specs.declared.entry.Entry.TheVariants.{Open, File, Post, Bil
 use Rattle.entries.specs.declared.given_list.GivenList.{GivenList}
 use Rattle.entries.specs.declared.given_list.GivenList.TheVariants.{Flat, Quarter}
 use Rattle.entries.specs.declared.journal_kind.JournalKind.TheVariants.{Table, Entries}
-use Rattle.entries.specs.declared.line.Line.{Line}
-use Rattle.entries.specs.declared.line.Line.TheVariants.{Passed, Entry, Unread}
+use Rattle.entries.specs.declared.line.Line.TheVariants.{Passed, Entry}
 use Rattle.entries.proofs.ReadsText.{read_is}
 use Rattle.entries.proofs.TextsRead.{text_read}
 

@@ -1,6 +1,6 @@
 -- A line that is read as an entry is the text of that entry.
-use Rattle.std.proofs.Common.{◌≡◌, ℕ, ◌^◌, ◌<◌, ◌≤◌, Bool, true, false, cond, eqb, ltb, leb, List, [], ◌∷◌, ◌++◌, length, map, ℤ, pos, negsuc, Option, Some, None, refl, sym, ap, ◌∙◌, subst, arith, codes}
-use Rattle.std.specs.List.{All, join_with_byte, slice_split}
+use Rattle.std.proofs.Common.{◌≡◌, ℕ, ◌^◌, ◌<◌, Bool, true, false, cond, ltb, leb, List, [], ◌∷◌, ◌++◌, length, map, ℤ, pos, negsuc, Option, Some, None, refl, sym, ap, ◌∙◌, subst, arith, codes}
+use Rattle.std.specs.List.{All, slice_split}
 use Rattle.std.specs.Option.{option_and_then, option_map, option_zip}
 use Rattle.std.specs.Str.{bytes_eq}
 use Rattle.std.proofs.lemmas.Bool.{leb-true, ltb-true}
@@ -9,13 +9,13 @@ use Rattle.std.proofs.lemmas.List.Elements.{All-cons, All-nil}
 use Rattle.std.proofs.lemmas.List.Splits.{join_with_byte-slice_split, length-slice_split}
 use Rattle.std.proofs.lemmas.Option.{cond_some, none-some, same_Some}
 use Rattle.std.proofs.lemmas.Slice.Eq.{bytes_eq-Decides}
-use Rattle.entries.specs.Numbers.{below, number_in, two_numbers_in, u16_in, u32_in}
+use Rattle.entries.specs.Numbers.{below, number_in, two_numbers_in, u32_in}
 use Rattle.entries.specs.Rates.{all_of, rates_in}
 use Rattle.entries.specs.Readings.{at_most, entry_in, given_list_in, journal_in, list_by, list_in, meter_reading_in, named_in, open_in, quarter_in}
 use Rattle.entries.specs.Texts.{Fits, FitsI64, GivenListFits, JournalFits, MeterFits, entry_text, given_list_words, journal_words, list_words, meter_words, natural, number}
 use Rattle.entries.specs.Words.{first_word, is_comma, joined, words_after}
 use Rattle.entries.specs.declared.entry.Entry.{Entry}
-use Rattle.entries.specs.declared.entry.Entry.TheVariants.{Open, File, Post, Bill, Resettle, Pay, State, Close, Look}
+use Rattle.entries.specs.declared.entry.Entry.TheVariants.{Open, File, Post, Bill, Resettle, State, Close, Look}
 use Rattle.entries.specs.declared.entry.MeterReading.{MeterReading}
 use Rattle.entries.specs.declared.given_list.GivenList.{GivenList}
 use Rattle.entries.specs.declared.given_list.GivenList.TheVariants.{Flat, Quarter}

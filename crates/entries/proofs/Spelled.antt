@@ -1,7 +1,7 @@
 -- A word and the number whose text it is.
-use Rattle.std.proofs.Common.{◌≡◌, ℕ, zero, suc, ◌+◌, ◌^◌, ◌<◌, ◌≤◌, true, false, ◌&&◌, cond, eqb, ltb, List, [], ◌∷◌, ◌++◌, length, get_or, replicate, ℤ, pos, Ok, Err, Result, Option, Some, None, sym, refl, ap, ◌∙◌, subst, ⊎_elim, arith, SFits, to_z, of_z}
+use Rattle.std.proofs.Common.{◌≡◌, ℕ, zero, suc, true, false, ◌&&◌, eqb, List, [], ◌∷◌, get_or, ℤ, Ok, Err, Result, Option, Some, None, sym, refl, ap, ◌∙◌, arith, SFits, to_z, of_z}
 use mir.Syntax.{w64, w128}
-use Rattle.std.proofs.lemmas.Bool.{false≢true, eqb-true, and_from, and_parts, cases_Bool, cond-false, cond-true, lt-ltb, ltb-true}
+use Rattle.std.proofs.lemmas.Bool.{false≢true, eqb-true, and_from, and_parts, cond-true, lt-ltb, ltb-true}
 use Rattle.std.proofs.lemmas.Int.{to_z-of_z}
 use Rattle.std.proofs.lemmas.Option.{cond_some, same_Some, none-some}
 use Rattle.std.proofs.lemmas.Slice.Eq.{bytes_eq-Decides}

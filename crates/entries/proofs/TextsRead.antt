@@ -1,14 +1,14 @@
 -- The text of each entry is read as that entry.
-use Rattle.std.proofs.Common.{◌≡◌, ℕ, ◌^◌, ◌<◌, ◌≤◌, Bool, true, false, cond, ltb, leb, List, [], ◌∷◌, ◌++◌, length, map, ℤ, pos, Option, Some, None, refl, sym, ap, ◌∙◌, arith}
-use Rattle.std.specs.List.{All, join_with_byte, slice_split}
+use Rattle.std.proofs.Common.{◌≡◌, ℕ, ◌^◌, ◌<◌, Bool, true, false, ltb, leb, List, [], ◌∷◌, ◌++◌, map, ℤ, pos, Option, Some, refl, ap, ◌∙◌, arith}
+use Rattle.std.specs.List.{All}
 use Rattle.std.specs.Option.{option_and_then, option_map, option_zip}
 use Rattle.std.proofs.lemmas.Bool.{cond-true, le-leb, lt-ltb}
 use Rattle.std.proofs.lemmas.List.Elements.{All-cons, All-head, All-nil, All-tail}
 use Rattle.entries.specs.Numbers.{below, number_in, two_numbers_in, u16_in, u32_in}
 use Rattle.entries.specs.Rates.{all_of, rates_in}
-use Rattle.entries.specs.Readings.{at_most, entry_in, given_list_in, journal_in, list_in, meter_reading_in, named_in, open_in, quarter_in}
+use Rattle.entries.specs.Readings.{at_most, entry_in, given_list_in, journal_in, list_in, meter_reading_in, open_in}
 use Rattle.entries.specs.Texts.{Fits, FitsI64, GivenListFits, JournalFits, MeterFits, entry_text, given_list_words, journal_words, list_words, meter_words, natural, number}
-use Rattle.entries.specs.Words.{first_word, is_comma, joined, words_after}
+use Rattle.entries.specs.Words.{first_word, joined, words_after}
 use Rattle.entries.specs.declared.entry.Entry.{Entry}
 use Rattle.entries.specs.declared.entry.Entry.TheVariants.{Open, File, Post, Bill, Resettle, Pay, State, Close, Look}
 use Rattle.entries.specs.declared.entry.MeterReading.{MeterReading}

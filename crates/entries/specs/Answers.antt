@@ -1,5 +1,5 @@
 -- The text of an answer: its words, a space between each two.
-use Rattle.std.specs.Prelude.{◌≡◌, ℕ, List, [], ◌∷◌, ◌++◌, ℤ, pos, Some, None, Option, codes}
+use Rattle.std.specs.Prelude.{◌≡◌, ℕ, List, [], ◌∷◌, ◌++◌, ℤ, Some, None, Option, codes}
 use Rattle.std.specs.List.{join_with_byte}
 use Rattle.settlement.specs.Refusals.{number_of}
 use Rattle.settlement.specs.declared.account.Filed as account

@@ -1,5 +1,5 @@
 -- What a line of a daybook is.
-use Rattle.std.specs.Prelude.{◌≡◌, ℕ, Bool, true, false, cond, ◌↔◌, List, [], ◌∷◌, Some, None, Option, ◌==◌}
+use Rattle.std.specs.Prelude.{◌≡◌, ℕ, Bool, true, cond, ◌↔◌, List, [], ◌∷◌, Some, None, Option, ◌==◌}
 use Rattle.std.specs.Str.Lines.{strip_carriage_return}
 use Rattle.entries.specs.Readings.{entry_in}
 use Rattle.entries.specs.Texts.{Fits, entry_text}

@@ -1,7 +1,7 @@
 -- The numbers of words.
 use Rattle.std.specs.Prelude.{ℕ, ◌^◌, Bool, cond, ◌&&◌, List, ℤ, pos, Some, None, Option, nat_lt}
 use Rattle.std.specs.Int.Signed.{mag}
-use Rattle.std.specs.Option.{option_and_then, option_map, option_zip}
+use Rattle.std.specs.Option.{option_and_then, option_zip}
 use Rattle.std.specs.Str.{bytes_eq}
 use Rattle.std.specs.Str.Parse.{signed_digits_value}
 use Rattle.columns.specs.Texts.{text_of}

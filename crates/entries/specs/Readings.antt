@@ -1,5 +1,5 @@
 -- The entry in a line, word by word.
-use Rattle.std.specs.Prelude.{ℕ, Bool, cond, List, ℤ, Some, None, Option, codes, nat_le}
+use Rattle.std.specs.Prelude.{ℕ, Bool, cond, List, Some, None, Option, codes, nat_le}
 use Rattle.std.specs.Option.{option_and_then, option_map, option_zip}
 use Rattle.std.specs.Str.{bytes_eq}
 use Rattle.entries.specs.Words.{first_word, words_after}

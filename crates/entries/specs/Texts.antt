@@ -1,5 +1,5 @@
 -- The text of an entry: its words, a comma between each two.
-use Rattle.std.specs.Prelude.{◌≡◌, ℕ, ◌^◌, ◌<◌, ◌≤◌, Bool, cond, List, [], ◌∷◌, ◌++◌, length, map, ℤ, pos, codes}
+use Rattle.std.specs.Prelude.{ℕ, ◌^◌, ◌<◌, ◌≤◌, cond, List, [], ◌∷◌, length, map, ℤ, pos, codes}
 use Rattle.std.specs.Int.Signed.{mag}
 use Rattle.std.specs.List.{All}
 use Rattle.columns.specs.Texts as columns

@@ -9,6 +9,8 @@ mod journal_kind;
 mod line;
 mod numbers;
 mod reading;
+#[cfg(test)]
+mod tests;
 mod words;
 
 pub use answer::{Answer, YearAnswer};

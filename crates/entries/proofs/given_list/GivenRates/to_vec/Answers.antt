@@ -1,5 +1,5 @@
-use Rattle.std.proofs.Common.{◌≡◌, lit<, IfOk, subst, sym, ap, ◌∙◌, rules, tests, vec_items}
-use Rattle.std.specs.List.{filter_map, slice_split}
+use Rattle.std.proofs.Common.{◌≡◌, lit<, IfOk, subst, ◌∙◌, rules, tests, vec_items}
+use Rattle.std.specs.List.{slice_split}
 use Rattle.std.proofs.lemmas.Iterator.{items_from_collect}
 use Rattle.std.proofs.lemmas.Iterator.Consumers.{YieldsList-from_filter_map}
 use Rattle.std.proofs.lemmas.Iterator.Splits.{YieldsList-from_str_split}

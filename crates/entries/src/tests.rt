@@ -1,0 +1,199 @@
+use crate::{
+    Answer, Entry, GivenList, JournalKind, Line, ListEntry, MeterReading, YearAnswer, read_line,
+};
+use rates::RateList;
+use settlement::{Refusal, RowAnswer, State};
+use std::process::Abort;
+
+#[test]
+fn entries(rt: HostRuntime) {
+    assert!(rt;
+        matches!(
+            read_line("open,65535,table,0"),
+            Line::Entry(Entry::Open {
+                year: 65_535,
+                journal: JournalKind::Table(0)
+            })
+        )
+    );
+    assert!(rt;
+        matches!(
+            read_line("open,0,entries,1000000"),
+            Line::Entry(Entry::Open {
+                year: 0,
+                journal: JournalKind::Entries(1_000_000)
+            })
+        )
+    );
+    assert!(rt;
+        matches!(
+            read_line("file,7,-1\r"),
+            Line::Entry(Entry::File {
+                project: 7,
+                requirement: -1
+            })
+        )
+    );
+    assert!(rt;
+        matches!(
+            read_line("post,1"),
+            Line::Entry(Entry::Post { forecast: 1 })
+        )
+    );
+    let reading = MeterReading {
+        participant: 7,
+        month: 1,
+        kwh: 1_000,
+    };
+    assert!(rt; matches!(read_line("bill,7,1,1000"), Line::Entry(Entry::Bill(r)) if r == reading));
+    assert!(rt;
+        matches!(read_line("resettle,7,1,1000"), Line::Entry(Entry::Resettle(r)) if r == reading)
+    );
+    assert!(rt; matches!(read_line("pay"), Line::Entry(Entry::Pay)));
+    assert!(rt;
+        matches!(
+            read_line("state,7,9223372036854775807"),
+            Line::Entry(Entry::State {
+                project: 7,
+                actual: i64::MAX
+            })
+        )
+    );
+    assert!(rt;
+        matches!(
+            read_line("look,-9223372036854775808"),
+            Line::Entry(Entry::Look { project: i64::MIN })
+        )
+    );
+}
+
+/// The line closes a year with a list that has this rate in this month.
+fn closes_with(rt: &(impl Abort + AllocGlobal), line: &str, month: u32, rate: Option<u32>) {
+    match read_line(line) {
+        Line::Entry(Entry::Close(list)) => {
+            let named = list.named(rt.alloc());
+            assert!(rt; named.is_ok_and(|named| named.rate(month) == rate));
+        }
+        _ => assert!(rt; false),
+    }
+}
+
+#[test]
+fn lists(rt: HostRuntime) {
+    closes_with(&rt, "close,flat,25", 0, Some(25));
+    closes_with(&rt, "close,quarter,1,40,100001,60", 3, Some(40));
+    closes_with(&rt, "close,quarter,1,40,100001,60", 6, None);
+    closes_with(&rt, "close,holding,quarter,1,40,100001,60", 6, Some(40));
+    closes_with(&rt, "close,holding,flat,4294967295", 6, None);
+}
+
+#[test]
+fn no_entries(rt: HostRuntime) {
+    for line in ["", "\r", "#", "# pay", "#\r"] {
+        assert!(rt; matches!(read_line(line), Line::Passed));
+    }
+    let unread = [
+        "pay,",
+        " pay",
+        "pay ",
+        "Pay",
+        "pay\r\r",
+        "pay\n",
+        "post",
+        "post,",
+        "post,01",
+        "post,-0",
+        "post,+1",
+        "post, 1",
+        "post,1 ",
+        "post,1,",
+        "post,9223372036854775808",
+        "file,1",
+        "file,1,2,3",
+        "bill,1,2",
+        "bill,1,2,3,4",
+        "open,65536,table,1",
+        "open,-1,table,1",
+        "open,1,table,65536",
+        "open,1,entries,1000001",
+        "open,1,list,1",
+        "open,1,table",
+        "close",
+        "close,flat",
+        "close,flat,-1",
+        "close,flat,4294967296",
+        "close,flat,1,2",
+        "close,quarter,1",
+        "close,quarter,1,",
+        "close,quarter,1,2,",
+        "close,quarter,1,,2",
+        "close,holding",
+        "close,holding,holding,flat,1",
+        ",",
+        "bill",
+        "é",
+    ];
+    for line in unread {
+        assert!(rt; matches!(read_line(line), Line::Unread));
+    }
+}
+
+/// The answer prints as this text.
+fn prints(rt: &(impl Abort + AllocGlobal), answer: Answer, text: &str) {
+    assert!(rt;
+        answer
+            .to_string(rt.alloc())
+            .is_ok_and(|printed| printed.as_str() == text)
+    );
+}
+
+#[test]
+fn answers(rt: HostRuntime) {
+    prints(&rt, Answer::Opened { year: 2026 }, "opened 2026");
+    prints(&rt, Answer::Filed, "filed");
+    prints(&rt, Answer::Rate(30_000), "rate 30000");
+    prints(&rt, Answer::Charge(300), "charge 300");
+    prints(&rt, Answer::Change(-200), "change -200");
+    prints(
+        &rt,
+        Answer::Paid {
+            change: 99,
+            till: 1,
+        },
+        "paid 99 till 1",
+    );
+    prints(&rt, Answer::Stated, "stated");
+    prints(&rt, Answer::Closed { year: 2027 }, "closed 2027");
+    prints(&rt, Answer::Refused(Refusal::AlreadyHeld), "refused 10");
+    prints(&rt, Answer::Unread, "unread");
+    let row = RowAnswer {
+        project: 7,
+        due_now: 0,
+        due_next: 3,
+        paid: 33,
+        kept: -17,
+        requirement: Some(1),
+        actual: None,
+    };
+    prints(
+        &rt,
+        Answer::Row(row),
+        "row 7 due-now 0 due-next 3 paid 33 kept -17 requirement 1 actual -",
+    );
+    let draft = YearAnswer {
+        year: 2027,
+        state: State::Draft,
+        money: 1,
+        till: 1,
+    };
+    prints(&rt, Answer::Year(draft), "year 2027 draft money 1 till 1");
+    let posted = YearAnswer {
+        state: State::Posted(30_000),
+        ..draft
+    };
+    prints(
+        &rt,
+        Answer::Year(posted),
+        "year 2027 posted 30000 money 1 till 1",
+    );
+}
