@@ -15,8 +15,8 @@ use Rattle.settlement.specs.declared.refusal.Refusal.TheVariants.{ProjectNumberO
 use Rattle.settlement.specs.declared.row_answer.RowAnswer.{RowAnswer}
 use Rattle.settlement.specs.declared.state.State.{State}
 use Rattle.settlement.specs.declared.state.State.TheVariants.{Draft, Posted}
-use Rattle.entries.specs.Answers.{OneAnswer, amount, answer_text, answer_words, filed_words, row_words, year_words}
-use Rattle.entries.specs.Texts.{natural, number}
+use Rattle.entries.specs.Numbers.{natural, number}
+use Rattle.entries.specs.Answers.{HasItsOwnText, amount, answer_text, answer_words, filed_words, row_words, year_words}
 use Rattle.entries.specs.declared.answer.Answer.{Answer}
 use Rattle.entries.specs.declared.answer.Answer.TheVariants.{Opened, Filed, Rate, Charge, Change, Paid, Stated, Closed, Row, Refused, Unread, Year}
 use Rattle.entries.specs.declared.answer.YearAnswer.{YearAnswer}
@@ -239,5 +239,5 @@ told text = answer_of (slice_split (λ b. eqb b 32) text)
 told_back : (a : Answer) → told (answer_text a) ≡ a
 told_back a = ap answer_of (words_back (answer_words a) (answer_some a) (answer_plain a)) ∙ answer_back a
 
-pub one_answer : OneAnswer
-one_answer a b e = sym (told_back a) ∙ ap told e ∙ told_back b
+pub has_its_own_text : (a : Answer) → HasItsOwnText a
+has_its_own_text a b e = sym (told_back b) ∙ ap told e ∙ told_back a

@@ -10,7 +10,7 @@ use Rattle.std.proofs.lemmas.List.Splits.{slice_split_at, slice_split_none}
 use Rattle.columns.specs.Texts.{digits_of}
 use Rattle.columns.proofs.Digits.{by_digits, some_digit}
 use Rattle.columns.proofs.Spelling.{text_at_least_zero}
-use Rattle.entries.specs.Texts.{number}
+use Rattle.entries.specs.Numbers.{number}
 use Rattle.entries.specs.Words.{first_word, is_comma, words_after}
 
 -- no byte of the word is this one

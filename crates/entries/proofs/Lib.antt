@@ -4,6 +4,6 @@ mod Endings
 mod Cutting
 mod TextsRead
 mod ReadsText
-mod Laws
+pub mod Laws
 mod Decimals
-mod AnswersBack
+pub mod AnswersBack

@@ -9,10 +9,10 @@ use Rattle.std.proofs.lemmas.List.Elements.{All-cons, All-nil}
 use Rattle.std.proofs.lemmas.List.Splits.{join_with_byte-slice_split, length-slice_split}
 use Rattle.std.proofs.lemmas.Option.{cond_some, none-some, same_Some}
 use Rattle.std.proofs.lemmas.Slice.Eq.{bytes_eq-Decides}
-use Rattle.entries.specs.Numbers.{below, number_in, two_numbers_in, u32_in}
+use Rattle.entries.specs.Numbers.{FitsI64, below, natural, number, number_in, two_numbers_in, u32_in}
 use Rattle.entries.specs.Rates.{all_of, rates_in}
 use Rattle.entries.specs.Readings.{at_most, entry_in, given_list_in, journal_in, list_by, list_in, meter_reading_in, named_in, open_in, quarter_in}
-use Rattle.entries.specs.Texts.{Fits, FitsI64, GivenListFits, JournalFits, MeterFits, entry_text, given_list_words, journal_words, list_words, meter_words, natural, number}
+use Rattle.entries.specs.Texts.{Fits, GivenListFits, JournalFits, MeterFits, entry_text, given_list_words, journal_words, list_words, meter_words}
 use Rattle.entries.specs.Words.{first_word, is_comma, joined, words_after}
 use Rattle.entries.specs.declared.entry.Entry.{Entry}
 use Rattle.entries.specs.declared.entry.Entry.TheVariants.{Open, File, Post, Bill, Resettle, State, Close, Look}

@@ -4,10 +4,10 @@ use Rattle.std.specs.List.{All}
 use Rattle.std.specs.Option.{option_and_then, option_map, option_zip}
 use Rattle.std.proofs.lemmas.Bool.{cond-true, le-leb, lt-ltb}
 use Rattle.std.proofs.lemmas.List.Elements.{All-cons, All-head, All-nil, All-tail}
-use Rattle.entries.specs.Numbers.{below, number_in, two_numbers_in, u16_in, u32_in}
+use Rattle.entries.specs.Numbers.{FitsI64, below, natural, number, number_in, two_numbers_in, u16_in, u32_in}
 use Rattle.entries.specs.Rates.{all_of, rates_in}
 use Rattle.entries.specs.Readings.{at_most, entry_in, given_list_in, journal_in, list_in, meter_reading_in, open_in}
-use Rattle.entries.specs.Texts.{Fits, FitsI64, GivenListFits, JournalFits, MeterFits, entry_text, given_list_words, journal_words, list_words, meter_words, natural, number}
+use Rattle.entries.specs.Texts.{Fits, GivenListFits, JournalFits, MeterFits, entry_text, given_list_words, journal_words, list_words, meter_words}
 use Rattle.entries.specs.Words.{first_word, joined, words_after}
 use Rattle.entries.specs.declared.entry.Entry.{Entry}
 use Rattle.entries.specs.declared.entry.Entry.TheVariants.{Open, File, Post, Bill, Resettle, Pay, State, Close, Look}

@@ -6,7 +6,7 @@ use Rattle.settlement.specs.declared.account.Filed as account
 use Rattle.settlement.specs.declared.row_answer.RowAnswer.{RowAnswer}
 use Rattle.settlement.specs.declared.state.State.{State}
 use Rattle.settlement.specs.declared.state.State.TheVariants.{Draft, Posted}
-use Rattle.entries.specs.Texts.{natural, number}
+use Rattle.entries.specs.Numbers.{natural, number}
 use Rattle.entries.specs.declared.answer.Answer.{Answer}
 use Rattle.entries.specs.declared.answer.Answer.TheVariants.{Opened, Filed, Rate, Charge, Change, Paid, Stated, Closed, Row, Refused, Unread, Year}
 use Rattle.entries.specs.declared.answer.YearAnswer.{YearAnswer}
@@ -68,6 +68,6 @@ answer_words (Year year) = codes "year" ∷ year_words year
 abbrev pub answer_text : Answer → List ℕ
 answer_text a = spaced (answer_words a)
 
--- no two answers have the same text
-abbrev pub OneAnswer : Type 0
-OneAnswer = (a b : Answer) → answer_text a ≡ answer_text b → a ≡ b
+-- no other answer has the text of this one
+abbrev pub HasItsOwnText : Answer → Type 0
+HasItsOwnText a = (b : Answer) → answer_text b ≡ answer_text a → b ≡ a

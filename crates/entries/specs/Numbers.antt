@@ -1,5 +1,5 @@
--- The numbers of words.
-use Rattle.std.specs.Prelude.{ℕ, ◌^◌, Bool, cond, ◌&&◌, List, ℤ, pos, Some, None, Option, nat_lt}
+-- Numbers as words.
+use Rattle.std.specs.Prelude.{ℕ, ◌^◌, ◌<◌, Bool, cond, ◌&&◌, List, ℤ, pos, Some, None, Option, nat_lt}
 use Rattle.std.specs.Int.Signed.{mag}
 use Rattle.std.specs.Option.{option_and_then, option_zip}
 use Rattle.std.specs.Str.{bytes_eq}
@@ -7,13 +7,23 @@ use Rattle.std.specs.Str.Parse.{signed_digits_value}
 use Rattle.columns.specs.Texts.{text_of}
 use Rattle.entries.specs.Words.{first_word, words_after}
 
+-- a number's text, as in columns
+abbrev pub number : ℤ → List ℕ
+number n = text_of n
+
+abbrev pub natural : ℕ → List ℕ
+natural n = number (pos n)
+
 -- −2^63 ≤ n < 2^63: mag is n from zero on, and −n − 1 below
+abbrev pub FitsI64 : ℤ → Type 0
+FitsI64 n = mag n < 2 ^ 63
+
 abbrev pub in_range : ℤ → Bool
 in_range n = nat_lt (mag n) (2 ^ 63)
 
 -- n, where the word is just its text and it is in range
 abbrev pub number_if_text : List ℕ → ℤ → Option ℤ
-number_if_text word n = cond (bytes_eq word (text_of n) && in_range n) (Some n) None
+number_if_text word n = cond (bytes_eq word (number n) && in_range n) (Some n) None
 
 -- the number whose text a word is
 unfoldable pub number_in : List ℕ → Option ℤ

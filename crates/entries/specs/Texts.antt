@@ -1,8 +1,7 @@
 -- The text of an entry: its words, a comma between each two.
-use Rattle.std.specs.Prelude.{ℕ, ◌^◌, ◌<◌, ◌≤◌, cond, List, [], ◌∷◌, length, map, ℤ, pos, codes}
-use Rattle.std.specs.Int.Signed.{mag}
+use Rattle.std.specs.Prelude.{ℕ, ◌^◌, ◌<◌, ◌≤◌, cond, List, [], ◌∷◌, length, map, codes}
 use Rattle.std.specs.List.{All}
-use Rattle.columns.specs.Texts as columns
+use Rattle.entries.specs.Numbers.{FitsI64, natural, number}
 use Rattle.entries.specs.Words.{joined}
 use Rattle.entries.specs.declared.entry.Entry.{Entry}
 use Rattle.entries.specs.declared.entry.Entry.TheVariants.{Open, File, Post, Bill, Resettle, Pay, State, Close, Look}
@@ -12,13 +11,6 @@ use Rattle.entries.specs.declared.given_list.GivenList.TheVariants.{Flat, Quarte
 use Rattle.entries.specs.declared.given_list.ListEntry.{ListEntry}
 use Rattle.entries.specs.declared.journal_kind.JournalKind.{JournalKind}
 use Rattle.entries.specs.declared.journal_kind.JournalKind.TheVariants.{Table, Entries}
-
--- a number's text, as in columns
-abbrev pub number : ℤ → List ℕ
-number n = columns.text_of n
-
-abbrev pub natural : ℕ → List ℕ
-natural n = number (pos n)
 
 abbrev pub journal_words : JournalKind → List (List ℕ)
 journal_words (Table participants) = codes "table" ∷ natural participants ∷ []
@@ -47,10 +39,6 @@ entry_words (Look project) = codes "look" ∷ number project ∷ []
 
 abbrev pub entry_text : Entry → List ℕ
 entry_text e = joined (entry_words e)
-
--- −2^63 ≤ n < 2^63: mag is n from zero on, and −n − 1 below
-abbrev pub FitsI64 : ℤ → Type 0
-FitsI64 n = mag n < 2 ^ 63
 
 abbrev pub JournalFits : JournalKind → Type 0
 JournalFits (Table participants) = participants < 2 ^ 16

@@ -13,7 +13,7 @@ impl fmt::Display for Amount {
     #[tactic(auto, using(crate::proofs::Decimals::shown))]
     fn fmt<W: fmt::Write>(&self, f: &mut fmt::Formatter<W>) -> fmt::Result {
         match self.0 {
-            None => write!(f, "-"),
+            None => f.write_str("-"),
             Some(amount) => write!(f, "{amount}"),
         }
     }

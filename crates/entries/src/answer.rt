@@ -38,16 +38,16 @@ impl fmt::Display for Answer {
     fn fmt<W: fmt::Write>(&self, f: &mut fmt::Formatter<W>) -> fmt::Result {
         match *self {
             Answer::Opened { year } => write!(f, "opened {year}"),
-            Answer::Filed => write!(f, "filed"),
+            Answer::Filed => f.write_str("filed"),
             Answer::Rate(rate) => write!(f, "rate {rate}"),
             Answer::Charge(charge) => write!(f, "charge {charge}"),
             Answer::Change(change) => write!(f, "change {change}"),
             Answer::Paid { change, till } => write!(f, "paid {change} till {till}"),
-            Answer::Stated => write!(f, "stated"),
+            Answer::Stated => f.write_str("stated"),
             Answer::Closed { year } => write!(f, "closed {year}"),
             Answer::Row(row) => write!(f, "row {}", RowText(row)),
             Answer::Refused(refusal) => write!(f, "refused {}", refusal.number()),
-            Answer::Unread => write!(f, "unread"),
+            Answer::Unread => f.write_str("unread"),
             Answer::Year(year) => write!(f, "year {}", YearText(year)),
         }
     }
