@@ -16,10 +16,9 @@ use Rattle.settlement.specs.declared.row_answer.RowAnswer.{RowAnswer}
 use Rattle.settlement.specs.declared.state.State.{State}
 use Rattle.settlement.specs.declared.state.State.TheVariants.{Draft, Posted}
 use Rattle.entries.specs.Numbers.{natural, number}
-use Rattle.entries.specs.Answers.{HasItsOwnText, amount, answer_text, answer_words, filed_words, row_words, year_words}
+use Rattle.entries.specs.Answers.{HasItsOwnText, amount, answer_text, answer_words, filed_words, row_words}
 use Rattle.entries.specs.declared.answer.Answer.{Answer}
 use Rattle.entries.specs.declared.answer.Answer.TheVariants.{Opened, Filed, Rate, Charge, Change, Paid, Stated, Closed, Row, Refused, Unread, Year}
-use Rattle.entries.specs.declared.answer.YearAnswer.{YearAnswer}
 use Rattle.entries.proofs.Cutting.{Lacks, number_lacks, split_joined}
 
 abbrev refusal_of : ℕ → Refusal
@@ -91,11 +90,11 @@ row_of w = record {
   actual = amount_in (word w 13);
 }
 
-abbrev draft_of : List (List ℕ) → YearAnswer
-draft_of w = record { year = natural_at w 1; state = Draft; money = number_at w 4; till = number_at w 6 }
+abbrev draft_of : List (List ℕ) → Answer
+draft_of w = Year (natural_at w 1) Draft (number_at w 4) (number_at w 6)
 
-abbrev posted_of : List (List ℕ) → YearAnswer
-posted_of w = record { year = natural_at w 1; state = Posted (number_at w 3); money = number_at w 5; till = number_at w 7 }
+abbrev posted_of : List (List ℕ) → Answer
+posted_of w = Year (natural_at w 1) (Posted (number_at w 3)) (number_at w 5) (number_at w 7)
 
 abbrev answer_by : List ℕ → List (List ℕ) → Answer
 answer_by name w =
@@ -109,7 +108,7 @@ answer_by name w =
     (cond (bytes_eq name (codes "closed")) (Closed (natural_at w 1))
     (cond (bytes_eq name (codes "row")) (Row (row_of w))
     (cond (bytes_eq name (codes "refused")) (Refused (refusal_of (natural_at w 1)))
-    (cond (bytes_eq name (codes "year")) (Year (cond (bytes_eq (word w 2) (codes "draft")) (draft_of w) (posted_of w)))
+    (cond (bytes_eq name (codes "year")) (cond (bytes_eq (word w 2) (codes "draft")) (draft_of w) (posted_of w))
     Unread))))))))))
 
 abbrev answer_of : List (List ℕ) → Answer
@@ -157,11 +156,8 @@ answer_back (Closed year) = ap Closed (natural_back year)
 answer_back (Row row) = ap Row (row_back row)
 answer_back (Refused refusal) = ap (λ n. Refused (refusal_of n)) (natural_back (number_of refusal)) ∙ ap Refused (refusal_back refusal)
 answer_back Unread = refl
-answer_back (Year year) = ap Year (year_back year.year year.state year.money year.till)
-  where
-    year_back : (y : ℕ) (s : State) (m t : ℤ) → (let a : YearAnswer = record { year = y; state = s; money = m; till = t } in let w = answer_words (Year a) in cond (bytes_eq (word w 2) (codes "draft")) (draft_of w) (posted_of w) ≡ a)
-    year_back y Draft m t i = record { year = natural_back y i; state = Draft; money = number_back m i; till = number_back t i }
-    year_back y (Posted rate) m t i = record { year = natural_back y i; state = Posted (number_back rate i); money = number_back m i; till = number_back t i }
+answer_back (Year year Draft money till) = λ i. Year (natural_back year i) Draft (number_back money i) (number_back till i)
+answer_back (Year year (Posted rate) money till) = λ i. Year (natural_back year i) (Posted (number_back rate i)) (number_back money i) (number_back till i)
 
 -- no word has a space
 plain : (w : List ℕ) → list_all (λ b. not (eqb b 32)) w ≡ true → Lacks 32 w
@@ -196,10 +192,6 @@ row_plain r = (
 money_plain : (m t : ℤ) → Plain (codes "money" ∷ number m ∷ codes "till" ∷ number t ∷ [])
 money_plain m t = (plain (codes "money") refl, (digits m, (plain (codes "till") refl, (digits t, tt))))
 
-year_plain : (y : ℕ) (s : State) (m t : ℤ) → Plain (year_words (record { year = y; state = s; money = m; till = t }))
-year_plain y Draft m t = (digits (pos y), (plain (codes "draft") refl, money_plain m t))
-year_plain y (Posted rate) m t = (digits (pos y), (plain (codes "posted") refl, (digits rate, money_plain m t)))
-
 answer_plain : (a : Answer) → Plain (answer_words a)
 answer_plain (Opened year) = (plain (codes "opened") refl, (digits (pos year), tt))
 answer_plain Filed = (plain (codes "filed") refl, tt)
@@ -212,7 +204,8 @@ answer_plain (Closed year) = (plain (codes "closed") refl, (digits (pos year), t
 answer_plain (Row row) = (plain (codes "row") refl, row_plain row)
 answer_plain (Refused refusal) = (plain (codes "refused") refl, (digits (pos (number_of refusal)), tt))
 answer_plain Unread = (plain (codes "unread") refl, tt)
-answer_plain (Year year) = (plain (codes "year") refl, year_plain year.year year.state year.money year.till)
+answer_plain (Year year Draft money till) = (plain (codes "year") refl, (digits (pos year), (plain (codes "draft") refl, money_plain money till)))
+answer_plain (Year year (Posted rate) money till) = (plain (codes "year") refl, (digits (pos year), (plain (codes "posted") refl, (digits rate, money_plain money till))))
 
 answer_some : (a : Answer) → 0 < length (answer_words a)
 answer_some (Opened year) = omega arith
@@ -226,7 +219,8 @@ answer_some (Closed year) = omega arith
 answer_some (Row row) = omega arith
 answer_some (Refused refusal) = omega arith
 answer_some Unread = omega arith
-answer_some (Year year) = omega arith
+answer_some (Year year Draft money till) = omega arith
+answer_some (Year year (Posted rate) money till) = omega arith
 
 words_back : (ws : List (List ℕ)) → 0 < length ws → Plain ws → slice_split (λ b. eqb b 32) (join_with_byte 32 ws) ≡ ws
 words_back [] some h = absurd (omega arith)

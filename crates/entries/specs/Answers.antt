@@ -9,7 +9,6 @@ use Rattle.settlement.specs.declared.state.State.TheVariants.{Draft, Posted}
 use Rattle.entries.specs.Numbers.{natural, number}
 use Rattle.entries.specs.declared.answer.Answer.{Answer}
 use Rattle.entries.specs.declared.answer.Answer.TheVariants.{Opened, Filed, Rate, Charge, Change, Paid, Stated, Closed, Row, Refused, Unread, Year}
-use Rattle.entries.specs.declared.answer.YearAnswer.{YearAnswer}
 
 abbrev pub spaced : List (List ℕ) → List ℕ
 spaced words = join_with_byte 32 words
@@ -39,8 +38,8 @@ abbrev pub state_words : State → List (List ℕ)
 state_words Draft = codes "draft" ∷ []
 state_words (Posted rate) = codes "posted" ∷ number rate ∷ []
 
-abbrev pub year_words : YearAnswer → List (List ℕ)
-year_words a = natural a.year ∷ (state_words a.state ++ (codes "money" ∷ number a.money ∷ codes "till" ∷ number a.till ∷ []))
+abbrev pub year_words : ℕ → State → ℤ → ℤ → List (List ℕ)
+year_words year state money till = natural year ∷ (state_words state ++ (codes "money" ∷ number money ∷ codes "till" ∷ number till ∷ []))
 
 abbrev pub filed_text : account.Filed → List ℕ
 filed_text f = spaced (filed_words f)
@@ -48,8 +47,8 @@ filed_text f = spaced (filed_words f)
 abbrev pub row_text : RowAnswer → List ℕ
 row_text r = spaced (row_words r)
 
-abbrev pub year_text : YearAnswer → List ℕ
-year_text a = spaced (year_words a)
+abbrev pub year_text : ℕ → State → ℤ → ℤ → List ℕ
+year_text year state money till = spaced (year_words year state money till)
 
 abbrev pub answer_words : Answer → List (List ℕ)
 answer_words (Opened year) = codes "opened" ∷ natural year ∷ []
@@ -63,7 +62,7 @@ answer_words (Closed year) = codes "closed" ∷ natural year ∷ []
 answer_words (Row row) = codes "row" ∷ row_words row
 answer_words (Refused refusal) = codes "refused" ∷ natural (number_of refusal) ∷ []
 answer_words Unread = codes "unread" ∷ []
-answer_words (Year year) = codes "year" ∷ year_words year
+answer_words (Year year state money till) = codes "year" ∷ year_words year state money till
 
 abbrev pub answer_text : Answer → List ℕ
 answer_text a = spaced (answer_words a)

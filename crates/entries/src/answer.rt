@@ -5,27 +5,31 @@ use std::fmt;
 /// What a book answers an entry, and how its year stands.
 #[derive(Clone, Copy, PartialEq, Eq, Debug)]
 pub enum Answer {
-    Opened { year: u16 },
+    Opened {
+        year: u16,
+    },
     Filed,
     Rate(i64),
     Charge(i64),
     Change(i64),
-    Paid { change: i64, till: i64 },
+    Paid {
+        change: i64,
+        till: i64,
+    },
     Stated,
-    Closed { year: u16 },
+    Closed {
+        year: u16,
+    },
     Row(RowAnswer),
     Refused(Refusal),
     Unread,
-    Year(YearAnswer),
-}
-
-/// A book's year, its state, its money and its till.
-#[derive(Clone, Copy, PartialEq, Eq, Debug)]
-pub struct YearAnswer {
-    pub year: u16,
-    pub state: State,
-    pub money: i64,
-    pub till: i64,
+    /// How the year stands.
+    Year {
+        year: u16,
+        state: State,
+        money: i64,
+        till: i64,
+    },
 }
 
 impl fmt::Display for Answer {
@@ -48,7 +52,20 @@ impl fmt::Display for Answer {
             Answer::Row(row) => write!(f, "row {}", RowText(row)),
             Answer::Refused(refusal) => write!(f, "refused {}", refusal.number()),
             Answer::Unread => f.write_str("unread"),
-            Answer::Year(year) => write!(f, "year {}", YearText(year)),
+            Answer::Year {
+                year,
+                state,
+                money,
+                till,
+            } => {
+                let standing = YearText {
+                    year,
+                    state,
+                    money,
+                    till,
+                };
+                write!(f, "year {standing}")
+            }
         }
     }
 }
@@ -102,24 +119,29 @@ impl fmt::Display for FiledText {
     }
 }
 
-/// A year's numbers, each after its name.
+/// How a year stands, each number after its name.
 #[derive(Clone, Copy)]
-struct YearText(YearAnswer);
+struct YearText {
+    year: u16,
+    state: State,
+    money: i64,
+    till: i64,
+}
 
 impl fmt::Display for YearText {
     ghost use Rattle.std.specs.Prelude.{Some};
     ghost use Rattle.entries.specs.Answers.{year_text};
 
-    ghost output = { λ year. Some (year_text year.0) };
+    ghost output = { λ y. Some (year_text y.year y.state y.money y.till) };
 
     #[tactic(auto, using(crate::proofs::Decimals::shown))]
     fn fmt<W: fmt::Write>(&self, f: &mut fmt::Formatter<W>) -> fmt::Result {
-        let YearAnswer {
+        let YearText {
             year,
             state,
             money,
             till,
-        } = self.0;
+        } = *self;
         match state {
             State::Draft => write!(f, "{year} draft money {money} till {till}"),
             State::Posted(rate) => write!(f, "{year} posted {rate} money {money} till {till}"),

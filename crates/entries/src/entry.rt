@@ -10,7 +10,7 @@ pub struct MeterReading {
 }
 
 /// An entry of a daybook: one call on a book.
-#[derive(Debug, Drop)]
+#[derive(Drop)]
 pub enum Entry<'a> {
     Open { year: u16, journal: JournalKind },
     File { project: i64, requirement: i64 },

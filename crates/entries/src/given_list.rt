@@ -7,7 +7,7 @@ use std::alloc::{AllocError, Global};
 use std::marker::Model;
 
 /// A rate list as an entry gives it.
-#[derive(Debug, Drop)]
+#[derive(Drop)]
 pub struct ListEntry<'a> {
     /// Whether it holds the rates of the list.
     pub holding: bool,
@@ -15,7 +15,7 @@ pub struct ListEntry<'a> {
 }
 
 /// A list below any holding.
-#[derive(Debug, Drop)]
+#[derive(Drop)]
 pub enum GivenList<'a> {
     /// `flat,RATE`
     Flat(u32),
@@ -24,7 +24,7 @@ pub enum GivenList<'a> {
 }
 
 /// The rates of a quarter list, one or more, as words of the line.
-#[derive(Debug, Drop)]
+#[derive(Drop)]
 pub struct GivenRates<'a> {
     words: &'a str,
 }

@@ -13,7 +13,7 @@ mod reading;
 mod tests;
 mod words;
 
-pub use answer::{Answer, YearAnswer};
+pub use answer::Answer;
 pub use entry::{Entry, MeterReading};
 pub use given_list::{GivenList, GivenRates, ListEntry};
 pub use journal_kind::JournalKind;

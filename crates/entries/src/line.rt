@@ -6,7 +6,7 @@ use crate::entry::Entry;
 use crate::reading::read_entry;
 
 /// What a line of a daybook is.
-#[derive(Debug, Drop)]
+#[derive(Drop)]
 pub enum Line<'a> {
     /// An empty line, or one that begins with `#`.
     Passed,

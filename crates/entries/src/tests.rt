@@ -1,6 +1,4 @@
-use crate::{
-    Answer, Entry, GivenList, JournalKind, Line, ListEntry, MeterReading, YearAnswer, read_line,
-};
+use crate::{Answer, Entry, GivenList, JournalKind, Line, ListEntry, MeterReading, read_line};
 use rates::RateList;
 use settlement::{Refusal, RowAnswer, State};
 use std::process::Abort;
@@ -180,20 +178,18 @@ fn answers(rt: HostRuntime) {
         Answer::Row(row),
         "row 7 due-now 0 due-next 3 paid 33 kept -17 requirement 1 actual -",
     );
-    let draft = YearAnswer {
+    let draft = Answer::Year {
         year: 2027,
         state: State::Draft,
         money: 1,
         till: 1,
     };
-    prints(&rt, Answer::Year(draft), "year 2027 draft money 1 till 1");
-    let posted = YearAnswer {
+    prints(&rt, draft, "year 2027 draft money 1 till 1");
+    let posted = Answer::Year {
+        year: 2027,
         state: State::Posted(30_000),
-        ..draft
+        money: -1,
+        till: 0,
     };
-    prints(
-        &rt,
-        Answer::Year(posted),
-        "year 2027 posted 30000 money 1 till 1",
-    );
+    prints(&rt, posted, "year 2027 posted 30000 money -1 till 0");
 }
