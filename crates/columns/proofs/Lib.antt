@@ -1,3 +1,4 @@
+pub mod Bytes
 pub mod Digits
 pub mod Laws
 pub mod Library

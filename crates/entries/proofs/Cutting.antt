@@ -8,14 +8,11 @@ use Rattle.std.proofs.lemmas.List.Elements.{All-cons, All-head, All-nil, All-pus
 use Rattle.std.proofs.lemmas.List.Quantifiers.{position-Some}
 use Rattle.std.proofs.lemmas.List.Splits.{slice_split_at, slice_split_none}
 use Rattle.columns.specs.Texts.{digits_of}
+use Rattle.columns.proofs.Bytes.{Lacks, text_lacks}
 use Rattle.columns.proofs.Digits.{by_digits, some_digit}
 use Rattle.columns.proofs.Spelling.{text_at_least_zero}
 use Rattle.entries.specs.Numbers.{number}
 use Rattle.entries.specs.Words.{first_word, is_comma, words_after}
-
--- no byte of the word is this one
-abbrev pub Lacks : ℕ → List ℕ → Type 0
-Lacks c word = All (λ b. eqb b c ≡ false) word
 
 abbrev pub NoComma : List ℕ → Type 0
 NoComma word = Lacks 44 word
@@ -42,18 +39,8 @@ cut_is text word rest f w some =
     let is : get_or text at 0 ≡ 44 = eqb-true _ 44 (position-Some is_comma text at 0 found).1 in
     sym (take-append-drop at text) ∙ (λ i. take at text ++ (drop-cons text at 0 within ∙ (λ j. is j ∷ drop (sym (add-one at) j) text)) i) ∙ (λ i. f i ++ (44 ∷ w i))
 
-module _ (c : ℕ) (small : c < 45) where
-  digits_lack : (m : ℕ) → Lacks c (digits_of m)
-  digits_lack = by_digits (λ m ds. Lacks c ds)
-      (λ m l. All-cons (λ b. eqb b c ≡ false) (48 + m) [] (ne_eqb _ _ (λ e. omega arith)) (All-nil (λ b. eqb b c ≡ false)))
-      (λ m ds l h. All-push (λ b. eqb b c ≡ false) ds (48 + m % 10) h (ne_eqb _ _ (λ e. omega arith)))
-
-  pub number_lacks : (n : ℤ) → Lacks c (number n)
-  number_lacks (pos m) = subst (Lacks c) (sym (text_at_least_zero m)) (digits_lack m)
-  number_lacks (negsuc m) = All-cons (λ b. eqb b c ≡ false) 45 (digits_of (suc m)) (ne_eqb _ _ (λ e. omega arith)) (digits_lack (suc m))
-
 pub number_no_comma : (n : ℤ) → NoComma (number n)
-number_no_comma n = number_lacks 44 (omega arith) n
+number_no_comma n = text_lacks 44 (omega arith) n
 
 pub number_some : (n : ℤ) → 0 < length (number n)
 number_some (pos m) = subst (λ ds. 0 < length ds) (sym (text_at_least_zero m)) (some_digit m)

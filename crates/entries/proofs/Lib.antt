@@ -5,5 +5,3 @@ mod Cutting
 mod TextsRead
 mod ReadsText
 pub mod Laws
-mod Decimals
-pub mod AnswersBack

@@ -5,4 +5,3 @@ pub mod Lists
 pub mod Texts
 pub mod Readings
 pub mod Lines
-pub mod Answers

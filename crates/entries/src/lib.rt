@@ -1,8 +1,6 @@
-//! The lines of a daybook: a line's text to its entry, and an answer to its text.
+//! The lines of a daybook: a line's text to its entry.
 #![tactic(auto)]
 
-mod amount;
-mod answer;
 mod entry;
 mod given_list;
 mod journal_kind;
@@ -13,7 +11,6 @@ mod reading;
 mod tests;
 mod words;
 
-pub use answer::Answer;
 pub use entry::{Entry, MeterReading};
 pub use given_list::{GivenList, GivenRates, ListEntry};
 pub use journal_kind::JournalKind;

@@ -6,9 +6,9 @@ use Rattle.settlement.specs.declared.account.Filed as account
 use Rattle.settlement.specs.declared.row_answer.RowAnswer.{RowAnswer}
 use Rattle.settlement.specs.declared.state.State.{State}
 use Rattle.settlement.specs.declared.state.State.TheVariants.{Draft, Posted}
-use Rattle.entries.specs.Numbers.{natural, number}
-use Rattle.entries.specs.declared.answer.Answer.{Answer}
-use Rattle.entries.specs.declared.answer.Answer.TheVariants.{Opened, Filed, Rate, Charge, Change, Paid, Stated, Closed, Row, Refused, Unread, Year}
+use Rattle.answers.specs.Numbers.{natural, number}
+use Rattle.answers.specs.declared.answer.Answer.{Answer}
+use Rattle.answers.specs.declared.answer.Answer.TheVariants.{Opened, Filed, Rate, Charge, Change, Paid, Stated, Closed, Row, Refused, Unread, Year}
 
 abbrev pub spaced : List (List ℕ) → List ℕ
 spaced words = join_with_byte 32 words

@@ -6,7 +6,7 @@ pub(crate) struct Amount(pub(crate) Option<i64>);
 
 impl fmt::Display for Amount {
     ghost use Rattle.std.specs.Prelude.{Some};
-    ghost use Rattle.entries.specs.Answers.{amount};
+    ghost use Rattle.answers.specs.Answers.{amount};
 
     ghost output = { λ a. Some (amount a.0) };
 

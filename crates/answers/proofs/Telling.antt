@@ -6,6 +6,7 @@ use Rattle.std.specs.Str.Parse.{signed_digits_value}
 use Rattle.std.proofs.lemmas.Bool.{and_parts, cases_Bool, cond-false}
 use Rattle.std.proofs.lemmas.List.Elements.{All-cons, All-from_recursion, All-nil}
 use Rattle.std.proofs.lemmas.Slice.Eq.{bytes_eq-Decides}
+use Rattle.columns.proofs.Bytes.{Lacks, text_lacks}
 use Rattle.columns.proofs.Digits.{one_digit}
 use Rattle.columns.proofs.Spelling.{text_at_least_zero, text_spells}
 use Rattle.settlement.specs.Refusals.{number_of}
@@ -15,11 +16,11 @@ use Rattle.settlement.specs.declared.refusal.Refusal.TheVariants.{ProjectNumberO
 use Rattle.settlement.specs.declared.row_answer.RowAnswer.{RowAnswer}
 use Rattle.settlement.specs.declared.state.State.{State}
 use Rattle.settlement.specs.declared.state.State.TheVariants.{Draft, Posted}
-use Rattle.entries.specs.Numbers.{natural, number}
-use Rattle.entries.specs.Answers.{HasItsOwnText, amount, answer_text, answer_words, filed_words, row_words}
-use Rattle.entries.specs.declared.answer.Answer.{Answer}
-use Rattle.entries.specs.declared.answer.Answer.TheVariants.{Opened, Filed, Rate, Charge, Change, Paid, Stated, Closed, Row, Refused, Unread, Year}
-use Rattle.entries.proofs.Cutting.{Lacks, number_lacks, split_joined}
+use Rattle.answers.specs.Numbers.{natural, number}
+use Rattle.answers.specs.Answers.{HasItsOwnText, amount, answer_text, answer_words, filed_words, row_words}
+use Rattle.answers.specs.declared.answer.Answer.{Answer}
+use Rattle.answers.specs.declared.answer.Answer.TheVariants.{Opened, Filed, Rate, Charge, Change, Paid, Stated, Closed, Row, Refused, Unread, Year}
+use Rattle.answers.proofs.Splitting.{split_joined}
 
 abbrev refusal_of : ℕ → Refusal
 refusal_of n =
@@ -174,7 +175,7 @@ abbrev Plain : List (List ℕ) → Type 0
 Plain words = AllByRecursion (Lacks 32) words
 
 digits : (n : ℤ) → Lacks 32 (number n)
-digits n = number_lacks 32 (omega arith) n
+digits n = text_lacks 32 (omega arith) n
 
 amount_plain : (a : Option ℤ) → Lacks 32 (amount a)
 amount_plain None = plain (codes "-") refl

@@ -5,7 +5,7 @@ use Rattle.std.specs.Fmt.{decimal, signed_decimal}
 use Rattle.std.proofs.lemmas.Int.{to_z-of_z}
 use Rattle.columns.proofs.Library.{decimal_is, signed_decimal_is}
 use Rattle.columns.proofs.Spelling.{text_at_least_zero}
-use Rattle.entries.specs.Numbers.{natural, number}
+use Rattle.answers.specs.Numbers.{natural, number}
 
 -- a number of 64 bits, as a call passes it on
 pub number_shown : (n : ℤ) → SFits w64 n → signed_decimal (to_z w64 (of_z w64 n)) ≡ number n

@@ -34,7 +34,7 @@ pub enum Answer {
 
 impl fmt::Display for Answer {
     ghost use Rattle.std.specs.Prelude.{Some};
-    ghost use Rattle.entries.specs.Answers.{answer_text};
+    ghost use Rattle.answers.specs.Answers.{answer_text};
 
     ghost output = { λ answer. Some (answer_text answer) };
 
@@ -76,7 +76,7 @@ struct RowText(RowAnswer);
 
 impl fmt::Display for RowText {
     ghost use Rattle.std.specs.Prelude.{Some};
-    ghost use Rattle.entries.specs.Answers.{row_text};
+    ghost use Rattle.answers.specs.Answers.{row_text};
 
     ghost output = { λ row. Some (row_text row.0) };
 
@@ -108,7 +108,7 @@ struct FiledText(Filed);
 
 impl fmt::Display for FiledText {
     ghost use Rattle.std.specs.Prelude.{Some};
-    ghost use Rattle.entries.specs.Answers.{filed_text};
+    ghost use Rattle.answers.specs.Answers.{filed_text};
 
     ghost output = { λ filed. Some (filed_text filed.0) };
 
@@ -130,7 +130,7 @@ struct YearText {
 
 impl fmt::Display for YearText {
     ghost use Rattle.std.specs.Prelude.{Some};
-    ghost use Rattle.entries.specs.Answers.{year_text};
+    ghost use Rattle.answers.specs.Answers.{year_text};
 
     ghost output = { λ y. Some (year_text y.year y.state y.money y.till) };
 

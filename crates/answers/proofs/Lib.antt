@@ -1,0 +1,3 @@
+mod Decimals
+mod Splitting
+pub mod Telling
