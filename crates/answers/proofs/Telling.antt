@@ -14,7 +14,6 @@ use Rattle.settlement.specs.declared.account.Filed as account
 use Rattle.settlement.specs.declared.refusal.Refusal.{Refusal}
 use Rattle.settlement.specs.declared.refusal.Refusal.TheVariants.{ProjectNumberOutOfRange, NotDraft, NoRoomForARow, RequirementOutOfRange, NotFiled, ForecastOutOfRange, UsageRateOutOfRange, ReadingOutOfRange, NotPosted, AlreadyHeld, MoneyOutOfRange, NoPlace, NotHeld, NoRow, ActualOutOfRange, NotStated, NotPaid, LastYear, RateMissing, TrueUpOutOfRange}
 use Rattle.settlement.specs.declared.row_answer.RowAnswer.{RowAnswer}
-use Rattle.settlement.specs.declared.state.State.{State}
 use Rattle.settlement.specs.declared.state.State.TheVariants.{Draft, Posted}
 use Rattle.answers.specs.Numbers.{natural, number}
 use Rattle.answers.specs.Answers.{HasItsOwnText, amount, answer_text, answer_words, filed_words, row_words}

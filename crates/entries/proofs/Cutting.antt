@@ -1,15 +1,14 @@
 -- Joined words are cut into just those words.
-use Rattle.std.proofs.Common.{◌≡◌, ℕ, suc, ◌+◌, ◌<◌, false, not, cond, eqb, ltb, List, [], ◌∷◌, ◌++◌, length, get_or, take, drop, ℤ, pos, negsuc, Some, sym, refl, ap, ◌∙◌, subst, add-one, drop-cons, ◌%◌, arith}
+use Rattle.std.proofs.Common.{◌≡◌, ℕ, ◌+◌, ◌<◌, false, not, cond, eqb, ltb, List, [], ◌∷◌, ◌++◌, length, get_or, take, drop, ℤ, pos, negsuc, Some, sym, refl, ap, ◌∙◌, subst, add-one, drop-cons, arith}
 use Rattle.std.specs.List.{All, join_with_byte, position, position_or_len, slice_split}
 use Rattle.std.proofs.Math.Seq.{drop-append-add}
-use Rattle.std.proofs.lemmas.Bool.{cond-true, eq-eqb, eqb-true, lt-ltb, ne_eqb}
+use Rattle.std.proofs.lemmas.Bool.{cond-true, eq-eqb, eqb-true, lt-ltb}
 use Rattle.std.proofs.lemmas.List.{length-drop, take-append-drop, take_at}
-use Rattle.std.proofs.lemmas.List.Elements.{All-cons, All-head, All-nil, All-push, All-tail}
+use Rattle.std.proofs.lemmas.List.Elements.{All-head, All-tail}
 use Rattle.std.proofs.lemmas.List.Quantifiers.{position-Some}
 use Rattle.std.proofs.lemmas.List.Splits.{slice_split_at, slice_split_none}
-use Rattle.columns.specs.Texts.{digits_of}
 use Rattle.columns.proofs.Bytes.{Lacks, text_lacks}
-use Rattle.columns.proofs.Digits.{by_digits, some_digit}
+use Rattle.columns.proofs.Digits.{some_digit}
 use Rattle.columns.proofs.Spelling.{text_at_least_zero}
 use Rattle.entries.specs.Numbers.{number}
 use Rattle.entries.specs.Words.{first_word, is_comma, words_after}
