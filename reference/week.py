@@ -17,7 +17,7 @@ WHY = {
     9: "the year is not posted",
     10: "kilowatt-hours are held for this participant and month already",
     11: "the money afterwards is not 0 to 90,000,000,000 cents",
-    12: "the journal has no place left",
+    12: "the journal has no place for this participant and month",
     13: "nothing is held for this participant and month",
     14: "the project has no row",
     15: "the actual is not 0 to 100,000,000 dollars",

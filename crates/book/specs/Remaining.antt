@@ -8,7 +8,7 @@ use Rattle.settlement.specs.Books.{BookView}
 use Rattle.settlement.specs.Closing.{close_questions, closed_book, figures_of}
 use Rattle.settlement.specs.Drafting.{file_questions, filed_book}
 use Rattle.settlement.specs.Lists.{Lists, terms_at}
-use Rattle.settlement.specs.Looking.{state_questions, stated_book}
+use Rattle.settlement.specs.Stating.{state_questions, stated_book}
 use Rattle.settlement.specs.Outcomes.{Outcome, ask, asked, done, in_money}
 
 -- file after questions 1 and 2

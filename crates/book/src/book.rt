@@ -1,13 +1,14 @@
 ghost use Rattle.std.specs.Prelude.{◌≡◌, ◌≤◌, true, unsigned_abs, IfSome};
 ghost use Rattle.rates.specs.Factor.{interest_months};
 ghost use Rattle.settlement.specs.Billing.{billed, resettled};
-ghost use Rattle.settlement.specs.Rules.{pair_of};
 ghost use Rattle.settlement.specs.Closing.{closed};
 ghost use Rattle.settlement.specs.Conservation.{NoCentIsMadeOrLost};
 ghost use Rattle.settlement.specs.Drafting.{filed, opened, posted};
-ghost use Rattle.settlement.specs.Looking.{looked, row_at, standing_of, stated};
+ghost use Rattle.settlement.specs.Looking.{looked, row_at, standing_of};
 ghost use Rattle.settlement.specs.Outcomes.{Gives};
 ghost use Rattle.settlement.specs.Paying.{paid};
+ghost use Rattle.settlement.specs.Rules.{pair_of};
+ghost use Rattle.settlement.specs.Stating.{stated};
 ghost use Rattle.book.specs.Remaining.{billed_reading, entered, resettled_reading};
 ghost use Rattle.book.specs.Views.{Leaves, pair_in, places, view};
 
@@ -35,6 +36,7 @@ impl<J: Journal> Book<J> {
         Book::draft(journal, year)
     }
 
+    /// A draft over a journal, which is wiped.
     fn draft(mut journal: J, year: u16) -> Book<J>
         ensures opened { view J.held result ≡ opened year }
         ensures places { J.wipe_leaves journal result.journal }

@@ -1,7 +1,7 @@
 ghost use Rattle.std.specs.Prelude.{◌≡◌, ◌≤◌, true, false, IfErr, IfOk};
-ghost use Rattle.settlement.specs.declared.refusal.Refusal.TheVariants.{ReadingOutOfRange};
 ghost use Rattle.settlement.specs.Billing.{pair_in_range, reading_in_range};
 ghost use Rattle.settlement.specs.Rules.{unsigned};
+ghost use Rattle.settlement.specs.declared.refusal.Refusal.TheVariants.{ReadingOutOfRange};
 
 use settlement::Refusal;
 

@@ -1,18 +1,18 @@
-ghost use Rattle.std.specs.Prelude.{◌≡◌, ◌≤◌, ℤ, pos, ◌+ℤ◌, ◌≤ℤ◌, unsigned_abs, is_some, true, false, IfErr, IfOk, IfNone, IfSome, IsTrue};
 ghost use Rattle.std.specs.Option.{unwrap_or};
-ghost use Rattle.settlement.specs.declared.refusal.Refusal.TheVariants.{ActualOutOfRange, RequirementOutOfRange};
+ghost use Rattle.std.specs.Prelude.{◌≡◌, ◌≤◌, ℤ, pos, ◌+ℤ◌, ◌≤ℤ◌, unsigned_abs, is_some, true, false, IfErr, IfOk, IfNone, IfSome, IsTrue};
 ghost use Rattle.settlement.specs.Books.{RowView, column_of, new_row, with_actual, with_filed, with_requirement};
 ghost use Rattle.settlement.specs.Closing.{has_its_share, closed_row, figures_of, is_true_up};
 ghost use Rattle.settlement.specs.Drafting.{may_file};
 ghost use Rattle.settlement.specs.Looking.{answer_of};
 ghost use Rattle.settlement.specs.Outcomes.{in_dollars, in_money};
 ghost use Rattle.settlement.specs.Paying.{share_of, with_share};
+ghost use Rattle.settlement.specs.Rules.{difference};
+ghost use Rattle.settlement.specs.declared.refusal.Refusal.TheVariants.{ActualOutOfRange, RequirementOutOfRange};
 
 use crate::figures::Figures;
 use crate::rules;
 use settlement::{Account, Filed, Refusal, RowAnswer};
 use std::marker::Model;
-use std::num::NonZeroU64;
 
 /// A project's row: dollars due and filed, cents paid and kept.
 #[derive(Clone, Copy)]
@@ -172,8 +172,8 @@ impl Row {
         };
     }
 
-    /// What the project should have been paid, in dollars.
-    fn spent(&self) -> i64
+    /// What the project should have been paid, in dollars: its actual and what is due now.
+    fn entitled(&self) -> i64
         ensures value { result ≡ unwrap_or self.now.filed.actual (pos 0) +ℤ self.now.account.due_now }
         ensures bound { unsigned_abs result ≤ 200000000 }
     {
@@ -182,10 +182,10 @@ impl Row {
 
     /// The same less what it was paid, in cents.
     fn difference(&self) -> i64
-        ensures value { result ≡ (figures_of (λ owed. 0) self.now).difference }
+        ensures value { result ≡ difference (unwrap_or self.now.filed.actual (pos 0)) self.now.account.due_now self.now.paid }
         ensures bound { unsigned_abs result ≤ 200000000000 }
     {
-        rules::cents(self.spent()) - self.paid
+        rules::cents(self.entitled()) - self.paid
     }
 
     /// The figures of the year, where the true-up is in range.

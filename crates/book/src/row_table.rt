@@ -3,13 +3,13 @@ mod drafting;
 mod looking;
 mod paying;
 mod places;
+mod stating;
 
-ghost use Rattle.std.specs.Prelude.{⊤, ◌+ℤ◌, get_or, pos, ◌-ℤ◌, IsTrue, ℕ, ◌≤ℤ◌, ◌≡◌, ◌<◌, ◌≤◌, ℤ, [], unsigned_abs, length, IfErr, IfOk, true, false};
-ghost use Rattle.settlement.specs.declared.refusal.Refusal.TheVariants.{MoneyOutOfRange, NotDraft, NotPosted};
+ghost use Rattle.std.specs.Prelude.{⊤, ◌+ℤ◌, get_or, pos, ◌-ℤ◌, IsTrue, ℕ, ◌≤ℤ◌, ◌≡◌, ◌<◌, ◌≤◌, ℤ, [], unsigned_abs, length};
 ghost use Rattle.settlement.specs.Books.{RowView, column_of, sum_of_paid, total_of, is_draft, is_posted, rate_of};
-ghost use Rattle.settlement.specs.declared.state.State.TheVariants.{Draft};
-ghost use Rattle.settlement.specs.Drafting.{posted};
 ghost use Rattle.settlement.specs.Outcomes.{in_money};
+ghost use Rattle.settlement.specs.declared.refusal.Refusal.TheVariants.{MoneyOutOfRange, NotDraft, NotPosted};
+ghost use Rattle.settlement.specs.declared.state.State.TheVariants.{Draft};
 ghost use Rattle.book.specs.Asking.{Asks};
 
 use crate::row::Row;

@@ -1,9 +1,9 @@
-ghost use Rattle.std.specs.Prelude.{◌≡◌, ◌<◌, ◌≤◌, ℤ, pos, ◌*◌, ◌+ℤ◌, ◌-ℤ◌, ◌*ℤ◌, ◌≤ℤ◌, unsigned_abs, IsTrue};
 ghost use Rattle.std.specs.NonZero.{non_zero_u64_get};
+ghost use Rattle.std.specs.Prelude.{◌≡◌, ◌<◌, ◌≤◌, ℤ, pos, ◌*◌, ◌+ℤ◌, ◌-ℤ◌, ◌*ℤ◌, ◌≤ℤ◌, unsigned_abs, IsTrue};
+ghost use Rattle.amounts.specs.Rounding.{rounded, rounded_down};
 ghost use Rattle.settlement.specs.Closing.{is_true_up};
 ghost use Rattle.settlement.specs.Outcomes.{in_dollars, in_money};
 ghost use Rattle.settlement.specs.Rules.{cents, charge, charge_scale, interest_scale, left_over, rate_scale, share, true_up as true_up_of, usage_rate};
-ghost use Rattle.amounts.specs.Rounding.{rounded, rounded_down};
 
 use amounts::{rounded, rounded_down};
 use std::num::NonZeroU64;

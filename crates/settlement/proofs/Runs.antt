@@ -13,7 +13,7 @@ use Rattle.settlement.specs.Lists.{terms_at}
 use Rattle.settlement.specs.Conservation.{Conservation, NoCentIsMadeOrLost}
 use Rattle.settlement.specs.Counting.{count, tally}
 use Rattle.settlement.specs.Drafting.{file_questions, filed_book, opened, post_questions, rate_for}
-use Rattle.settlement.specs.Looking.{state_questions, stated_book}
+use Rattle.settlement.specs.Stating.{state_questions, stated_book}
 use Rattle.settlement.specs.Paying.{paid_book, pay_answer, pay_questions}
 use Rattle.settlement.specs.Runs.{Run, Step, no_call, one_more}
 use Rattle.settlement.specs.Tally.{Tally}
@@ -36,6 +36,10 @@ lifetime_of_rows t l (r ∷ rs) e =
       },
       lifetime_of_rows t l rs e.1,
     )
+
+accounts_of_rows : (t : Tally) → (rows : List RowView) → EachRow (RowAgrees t.year t.filings t.past.accounts) rows → EachRow (λ r. r.account ≡ t.past.accounts r.project) rows
+accounts_of_rows t [] e = tt
+accounts_of_rows t (r ∷ rs) e = (e.0.0, accounts_of_rows t rs e.1)
 
 module _ {B : Type 0} (view : B → BookView) (place : B → Pair → Bool) where
   pub joined : {start middle end : B} {calls more : List Call} → Run view place start calls middle → Run view place middle more end → Run view place start (more ++ calls) end
@@ -72,6 +76,7 @@ module _ {B : Type 0} (view : B → BookView) (place : B → Pair → Bool) wher
       rows_are_the_filed_projects = λ calls b run. (along calls b run).rows.same_projects;
       charges_equal_payments_plus_till = λ calls b run. (along calls b run).metered.balance;
       shares_are_paid_after_pay = after_pay;
+      accounts_are_those_of_the_tally = λ calls b run. let s = along calls b run in accounts_of_rows (tally year calls) (view b).rows s.rows.figures;
       lifetimes_add_up = λ calls b run. let s = along calls b run in lifetime_of_rows (tally year calls) s.lifetimes (view b).rows s.rows.figures;
       interest_is_fair_in_each_close = λ calls lists u b run p q. close_is_fair interest_months (tally year calls) lists p q;
     }

@@ -3,7 +3,7 @@ use Rattle.std.proofs.Common.{◌≡◌, ℕ, false, ◌&&◌, eqb, List, [], �
 use Rattle.std.proofs.lemmas.Bool.{and_left, cond-false, ne_eqb}
 use Rattle.settlement.specs.Rules.{cents, sum_over, unsigned}
 use Rattle.settlement.specs.Books.{BookView, column_of, with_actual, with_filed}
-use Rattle.settlement.specs.Looking.{state_questions, stated, stated_book}
+use Rattle.settlement.specs.Stating.{state_questions, stated, stated_book}
 use Rattle.settlement.specs.Outcomes.{Gives}
 use Rattle.settlement.specs.Tally.{Tally, actual_in, note_actual}
 use Rattle.settlement.proofs.Asking.{asked_ok}

@@ -6,7 +6,7 @@ use Rattle.settlement.specs.Lists.{Lists}
 abbrev pub Answer : Type 0 → Type 0
 Answer A = Result A Refusal
 
--- a close has the meaning of its rate lists
+-- a close has the meaning of its rate list
 pub data Call : Type 0 where
   file : ℤ → ℤ → Answer (Unit {0}) → Call
   post : ℤ → Answer ℤ → Call

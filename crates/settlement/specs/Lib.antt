@@ -7,6 +7,7 @@ pub mod Drafting
 pub mod Billing
 pub mod Paying
 pub mod Looking
+pub mod Stating
 pub mod Closing
 pub mod Calls
 pub mod Tally

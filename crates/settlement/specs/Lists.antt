@@ -1,11 +1,11 @@
--- The rate lists that a close takes, and the terms that they give a year.
+-- The rate list that a close takes, and the terms that it gives a year.
 use Rattle.std.specs.Prelude.{ℕ, Option}
 use Rattle.std.specs.Option.{option_map, unwrap_or}
 use Rattle.rates.specs.Factor.{sum_of}
 use Rattle.rates.specs.Rates.{Rates, january}
 use Rattle.settlement.specs.Rules.{Terms}
 
--- the lists by their meaning
+-- by its meaning; a record, since a close may come to take more than one
 pub record Lists : Type 0 where
   pub rates : Rates
 

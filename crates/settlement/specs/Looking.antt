@@ -1,12 +1,12 @@
--- Looking at a book and at a project's row, and stating what a project has spent.
+-- Looking at a book and at a project's row.
 use Rattle.std.specs.Prelude.{ℕ, List, [], ◌∷◌, length, ℤ, Option, slice_get}
 use Rattle.std.specs.Option.{option_map}
-use Rattle.settlement.specs.declared.refusal.Refusal.TheVariants.{ProjectNumberOutOfRange, NotPosted, NoRow, ActualOutOfRange}
+use Rattle.settlement.specs.declared.refusal.Refusal.TheVariants.{ProjectNumberOutOfRange, NoRow}
 use Rattle.settlement.specs.declared.row_answer.RowAnswer.{RowAnswer}
 use Rattle.settlement.specs.declared.standing.Standing.{Standing}
 use Rattle.settlement.specs.Rules.{unsigned}
-use Rattle.settlement.specs.Books.{BookView, RowView, has_row, is_posted, on_row, row_on, till, with_actual, with_filed, with_rows}
-use Rattle.settlement.specs.Outcomes.{Outcome, Question, ask, asked, done, in_dollars, is_project}
+use Rattle.settlement.specs.Books.{BookView, RowView, has_row, row_on, till}
+use Rattle.settlement.specs.Outcomes.{Outcome, Question, ask, asked, done, is_project}
 
 abbrev pub answer_of : RowView → RowAnswer
 answer_of r = record {
@@ -36,18 +36,3 @@ look_questions b project =
 -- look: a project's row is the answer
 abbrev pub looked : BookView → ℤ → Outcome RowAnswer
 looked b project = asked b (look_questions b project) (done (answer_of (row_on (unsigned project) b.rows)) b)
-
-abbrev pub state_questions : BookView → ℤ → ℤ → List Question
-state_questions b project actual =
-    ask (is_project project) ProjectNumberOutOfRange  -- 1
-    ∷ ask (is_posted b.state) NotPosted  -- 9
-    ∷ ask (has_row (unsigned project) b.rows) NoRow  -- 14
-    ∷ ask (in_dollars actual) ActualOutOfRange  -- 15
-    ∷ []
-
-abbrev pub stated_book : BookView → ℕ → ℤ → BookView
-stated_book b project actual = with_rows (on_row project (with_filed (with_actual actual)) b.rows) b
-
--- state: sets a project's actual for the year
-abbrev pub stated : BookView → ℤ → ℤ → Outcome (Unit {0})
-stated b project actual = asked b (state_questions b project actual) (done tt (stated_book b (unsigned project) actual))

@@ -1,4 +1,4 @@
--- The number of each refusal.
+-- The number of each refusal, and what it says.
 use Rattle.std.specs.Prelude.{ℕ, List, codes}
 use Rattle.settlement.specs.declared.refusal.Refusal.{Refusal}
 use Rattle.settlement.specs.declared.refusal.Refusal.TheVariants.{ProjectNumberOutOfRange, NotDraft, NoRoomForARow, RequirementOutOfRange, NotFiled, ForecastOutOfRange, UsageRateOutOfRange, ReadingOutOfRange, NotPosted, AlreadyHeld, MoneyOutOfRange, NoPlace, NotHeld, NoRow, ActualOutOfRange, NotStated, NotPaid, LastYear, RateMissing, TrueUpOutOfRange}
@@ -38,7 +38,7 @@ sentence_of ReadingOutOfRange = codes "the participant, the month or the kilowat
 sentence_of NotPosted = codes "the year is not posted"
 sentence_of AlreadyHeld = codes "kilowatt-hours are held for this participant and month already"
 sentence_of MoneyOutOfRange = codes "the money afterwards is not 0 to 90,000,000,000 cents"
-sentence_of NoPlace = codes "the journal has no place left"
+sentence_of NoPlace = codes "the journal has no place for this participant and month"
 sentence_of NotHeld = codes "nothing is held for this participant and month"
 sentence_of NoRow = codes "the project has no row"
 sentence_of ActualOutOfRange = codes "the actual is not 0 to 100,000,000 dollars"

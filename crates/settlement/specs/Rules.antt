@@ -48,7 +48,7 @@ share money total column = rounded_down (money *ℤ column) (unsigned total)
 abbrev pub difference : ℤ → ℤ → ℤ → ℤ
 difference actual carried paid = cents (actual +ℤ carried) -ℤ paid
 
--- the factor that prices a difference
+-- for each difference the factor that prices it; today the same for all
 abbrev pub Terms : Type 0
 Terms = ℤ → ℕ
 
@@ -57,10 +57,10 @@ interest scale terms owed = rounded (owed *ℤ pos (terms owed)) scale
 
 -- cents in whole dollars, and the cents that these leave
 abbrev pub true_up : ℤ → ℤ
-true_up owed = rounded owed 100
+true_up settling = rounded settling 100
 
 abbrev pub left_over : ℤ → ℤ
-left_over owed = owed -ℤ cents (true_up owed)
+left_over settling = settling -ℤ cents (true_up settling)
 
 -- the scales of today: ten-thousandths of a dollar for a megawatt-hour are hundred-thousandths of a cent
 -- for a kilowatt-hour, and interest counts ten-millionths

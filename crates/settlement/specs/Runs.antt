@@ -7,7 +7,7 @@ use Rattle.settlement.specs.Billing.{billed, resettled}
 use Rattle.settlement.specs.Calls.{Call, file, post, bill, resettle, pay, state, close}
 use Rattle.settlement.specs.Closing.{closed}
 use Rattle.settlement.specs.Drafting.{filed, posted}
-use Rattle.settlement.specs.Looking.{stated}
+use Rattle.settlement.specs.Stating.{stated}
 use Rattle.settlement.specs.Outcomes.{Gives}
 use Rattle.settlement.specs.Paying.{paid}
 use Rattle.settlement.specs.Rules.{pair_of}

@@ -39,7 +39,7 @@ impl Refusal {
     }
 }
 
-// a journal refuses a number only where its pair has no place
+// a book puts only numbers that can be held, so its journal refuses one only for want of a place
 impl From<journals::Refusal> for Refusal {
     ghost from_gives = { λ _ refusal. refusal ≡ NoPlace };
 
@@ -71,7 +71,7 @@ impl fmt::Display for Refusal {
             Refusal::AlreadyHeld =>
                 "kilowatt-hours are held for this participant and month already",
             Refusal::MoneyOutOfRange => "the money afterwards is not 0 to 90,000,000,000 cents",
-            Refusal::NoPlace => "the journal has no place left",
+            Refusal::NoPlace => "the journal has no place for this participant and month",
             Refusal::NotHeld => "nothing is held for this participant and month",
             Refusal::NoRow => "the project has no row",
             Refusal::ActualOutOfRange => "the actual is not 0 to 100,000,000 dollars",

@@ -1,15 +1,13 @@
-ghost use Rattle.std.specs.Prelude.{⊤, take, pos, IsTrue, map, ◌≤ℤ◌, ◌≡◌, ◌≤◌, ℤ, length, IfNone, IfSome, IfErr, IfOk, true, false};
 ghost use Rattle.std.specs.List.{list_all};
-ghost use Rattle.settlement.specs.declared.refusal.Refusal.TheVariants.{NotPaid, NotStated};
-ghost use Rattle.settlement.specs.Books.{sum_of_paid, total_of};
+ghost use Rattle.std.specs.Prelude.{⊤, take, pos, IsTrue, map, ◌≤ℤ◌, ◌≡◌, ◌≤◌, ℤ, length, IfNone, IfSome, true, false};
 ghost use Rattle.rates.specs.Factor.{interest_months};
+ghost use Rattle.settlement.specs.Books.{sum_of_paid, total_of};
 ghost use Rattle.settlement.specs.Closing.{closed, figures_of, has_its_share, is_stated, is_true_up};
-ghost use Rattle.settlement.specs.Looking.{stated};
 ghost use Rattle.settlement.specs.Outcomes.{in_money};
-ghost use Rattle.settlement.specs.Paying.{paid};
+ghost use Rattle.settlement.specs.declared.refusal.Refusal.TheVariants.{NotPaid, NotStated};
+ghost use Rattle.book.specs.Asking.{Asks};
 ghost use Rattle.book.specs.Remaining.{closed_at_rates};
 ghost use Rattle.book.specs.Tables.{TableCloses, closed_rows, closed_table};
-ghost use Rattle.book.specs.Asking.{Asks};
 
 use crate::figures::Figures;
 use crate::row::Row;

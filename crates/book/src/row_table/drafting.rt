@@ -1,13 +1,13 @@
-ghost use Rattle.std.specs.Prelude.{⊤, is_some, ◌≡◌, IfErr, IfOk, true, false};
 ghost use Rattle.std.specs.List.{list_all};
-ghost use Rattle.settlement.specs.declared.refusal.Refusal.TheVariants.{ForecastOutOfRange, UsageRateOutOfRange};
+ghost use Rattle.std.specs.NonZero.{non_zero_u64_get};
+ghost use Rattle.std.specs.Prelude.{is_some, ◌≡◌};
 ghost use Rattle.settlement.specs.Books.{total_of};
 ghost use Rattle.settlement.specs.Drafting.{filed, all_filed, is_forecast, is_usage_rate, posted};
-ghost use Rattle.std.specs.NonZero.{non_zero_u64_get};
 ghost use Rattle.settlement.specs.Rules.{rate_scale, unsigned, usage_rate};
+ghost use Rattle.settlement.specs.declared.refusal.Refusal.TheVariants.{ForecastOutOfRange, UsageRateOutOfRange};
+ghost use Rattle.book.specs.Asking.{Asks};
 ghost use Rattle.book.specs.Remaining.{filed_row};
 ghost use Rattle.book.specs.Tables.{TableGives};
-ghost use Rattle.book.specs.Asking.{Asks};
 
 use crate::row_table::RowTable;
 use crate::row_table::places::project_number;

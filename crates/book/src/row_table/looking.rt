@@ -1,8 +1,7 @@
-ghost use Rattle.std.specs.Prelude.{◌≡◌};
 ghost use Rattle.std.specs.List.{position};
+ghost use Rattle.std.specs.Prelude.{◌≡◌};
 ghost use Rattle.journals.specs.Journal.{Held};
-ghost use Rattle.settlement.specs.Looking.{row_at, standing_of, looked, stated};
-ghost use Rattle.book.specs.Remaining.{stated_row};
+ghost use Rattle.settlement.specs.Looking.{row_at, standing_of, looked};
 ghost use Rattle.book.specs.Tables.{book_of, TableGives};
 
 use crate::row_table::RowTable;
@@ -38,24 +37,5 @@ impl RowTable {
         let project = project_number(project)?;
         let (_, row) = self.row_there(project)?;
         Ok(row.answer())
-    }
-
-    /// States a project's actual.
-    pub(crate) fn state(&mut self, project: i64, actual: i64) -> Result<(), Refusal>
-        ensures { TableGives (λ b. stated b project actual) self.old result self.new }
-    {
-        let project = project_number(project)?;
-        self.rate()?;
-        self.state_row(project, actual)
-    }
-
-    /// Questions 14 and 15, and the statement.
-    fn state_row(&mut self, project: u32, actual: i64) -> Result<(), Refusal>
-        ensures { TableGives (λ b. stated_row b project actual) self.old result self.new }
-    {
-        let (place, mut row) = self.row_there(project)?;
-        row.set_actual(actual)?;
-        self.write(place, row);
-        Ok(())
     }
 }

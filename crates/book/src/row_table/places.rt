@@ -1,12 +1,12 @@
-ghost use Rattle.std.specs.Prelude.{⊤, ◌≡◌, ◌<◌, ◌≤◌, length, IfErr, IfOk, nat_lt, true, false};
 ghost use Rattle.std.specs.List.{position};
-ghost use Rattle.settlement.specs.declared.refusal.Refusal.TheVariants.{NoRoomForARow, NoRow, ProjectNumberOutOfRange};
+ghost use Rattle.std.specs.Prelude.{◌≡◌, ◌<◌, ◌≤◌, length, nat_lt};
 ghost use Rattle.settlement.specs.Books.{has_row, row_on};
 ghost use Rattle.settlement.specs.Drafting.{has_room};
 ghost use Rattle.settlement.specs.Outcomes.{is_project};
 ghost use Rattle.settlement.specs.Rules.{unsigned};
-ghost use Rattle.book.specs.Tables.{StandsAt, with_the_rows, written};
+ghost use Rattle.settlement.specs.declared.refusal.Refusal.TheVariants.{NoRoomForARow, NoRow, ProjectNumberOutOfRange};
 ghost use Rattle.book.specs.Asking.{Asks};
+ghost use Rattle.book.specs.Tables.{StandsAt, with_the_rows, written};
 
 use crate::row::Row;
 use crate::row_table::{MOST_ROWS, RowTable};
