@@ -1,6 +1,6 @@
 """The book, its calls with their questions in order, and the journals that it keeps."""
 
-from dataclasses import dataclass, replace
+from dataclasses import dataclass
 
 from rules import Refused, ask, charge, difference, factor, interest, settled, share, usage_rate
 
@@ -10,64 +10,48 @@ MOST_KWH = 10_000_000_000
 MOST_PARTICIPANTS = 65_535
 
 
-class TableJournal:
-    """Twelve numbers for each participant, from participant 1 on."""
+class Journal:
+    """The numbers of the held pairs; which other pairs have a place is said by each kind."""
 
-    def __init__(self, participants):
-        self.numbers = [None] * (12 * min(participants, MOST_PARTICIPANTS))
-
-    def has_place(self, participant, month):
-        return 1 <= participant and 1 <= month <= 12 and 12 * participant <= len(self.numbers)
+    def __init__(self):
+        self.numbers = {}
 
     def look(self, participant, month):
-        if not self.has_place(participant, month):
-            return None
-        return self.numbers[12 * (participant - 1) + month - 1]
+        return self.numbers.get((participant, month))
 
     def put(self, participant, month, kwh):
         ask(self.has_place(participant, month) and kwh <= MOST_KWH, 12)
-        self.numbers[12 * (participant - 1) + month - 1] = kwh
+        self.numbers[participant, month] = kwh
 
     def wipe(self):
-        self.numbers = [None] * len(self.numbers)
+        self.numbers.clear()
 
     def held(self):
         """Every held pair with its number."""
-        places = enumerate(self.numbers)
-        return {(place // 12 + 1, place % 12 + 1): kwh for place, kwh in places if kwh is not None}
+        return self.numbers.copy()
 
 
-class EntryJournal:
-    """Records of a pair and its number, in any order; a pair that is not held takes an unused one."""
+class TableJournal(Journal):
+    """Twelve places for each participant, from participant 1 on."""
+
+    def __init__(self, participants):
+        super().__init__()
+        self.participants = min(participants, MOST_PARTICIPANTS)
+
+    def has_place(self, participant, month):
+        return 1 <= participant <= self.participants and 1 <= month <= 12
+
+
+class EntryJournal(Journal):
+    """So many records: a pair that is not held has a place while one is unused."""
 
     def __init__(self, records):
-        self.records = [None] * records
+        super().__init__()
+        self.records = records
 
-    def place_of(self, participant, month):
-        """The pair's record, or else the first unused one, if there is any."""
-        unused = None
-        for place, record in enumerate(self.records):
-            if record is None:
-                unused = place if unused is None else unused
-            elif record[:2] == (participant, month):
-                return place
-        return unused
-
-    def look(self, participant, month):
-        records = filter(None, self.records)
-        return next((kwh for at, of, kwh in records if (at, of) == (participant, month)), None)
-
-    def put(self, participant, month, kwh):
+    def has_place(self, participant, month):
         in_range = 1 <= participant <= MOST_PARTICIPANTS and 1 <= month <= 12
-        place = self.place_of(participant, month)
-        ask(in_range and place is not None and kwh <= MOST_KWH, 12)
-        self.records[place] = (participant, month, kwh)
-
-    def wipe(self):
-        self.records = [None] * len(self.records)
-
-    def held(self):
-        return {(participant, month): kwh for participant, month, kwh in filter(None, self.records)}
+        return in_range and ((participant, month) in self.numbers or len(self.numbers) < self.records)
 
 
 # --- the book -------------------------------------------------------------------------------
@@ -87,6 +71,9 @@ class Row:
     requirement: int = None
     actual: int = None
     paid: int = 0
+
+    def copy(self):
+        return Row(**vars(self))
 
     def column_16(self):
         return 0 if self.requirement is None else self.requirement + self.due_now
@@ -120,7 +107,7 @@ class Book:
 
     def view(self):
         """All that a call could change, as values."""
-        rows = [replace(row) for row in self.rows]
+        rows = [row.copy() for row in self.rows]
         return self.year, self.rate, self.money, rows, self.journal.held()
 
     def row_of(self, project):
@@ -217,4 +204,4 @@ class Book:
         ask(1 <= project <= 99_999_999, 1)
         row = self.row_of(project)
         ask(row is not None, 14)
-        return replace(row)
+        return row.copy()

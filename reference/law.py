@@ -15,11 +15,14 @@ class Tally:
     def __init__(self, year):
         self.year = year
         self.projects = []
-        self.readings = {}  # by year, participant and month
+        self.readings = defaultdict(dict)  # by year, then participant and month
         self.rates = {}  # by year
         self.requirements = {}  # by year and project
-        self.actuals = {}  # by year and project
+        self.actuals = defaultdict(dict)  # by year, then project
         self.payments = 0
+        # sums that each note keeps up
+        self.charged = 0
+        self.closed_actuals = defaultdict(int)  # by project
         # what the closed years left, by project
         self.closed_years = []
         self.due_now = defaultdict(int)
@@ -30,7 +33,16 @@ class Tally:
         self.closings = {}  # difference and interest of each project in the latest close
 
     def charges(self):
-        return sum(charge(kwh, self.rates[year]) for (year, _, _), kwh in self.readings.items())
+        return self.charged
+
+    def charges_summed(self):
+        """The charges once more, over all that is noted."""
+        years = self.readings.items()
+        return sum(charge(kwh, self.rates[year]) for year, readings in years for kwh in readings.values())
+
+    def closed_actuals_summed(self, project):
+        """A project's closed actuals once more, over all that is noted."""
+        return sum(self.actual_in(year, project) for year in self.closed_years)
 
     def money(self):
         """The charges that no project received in a closed year."""
@@ -44,10 +56,7 @@ class Tally:
         return sum(map(self.column_16, self.projects))
 
     def actual_in(self, year, project):
-        return self.actuals.get((year, project), 0)
-
-    def closed_actuals(self, project):
-        return sum(self.actual_in(year, project) for year in self.closed_years)
+        return self.actuals[year].get(project, 0)
 
     def told(self, name, arguments, answer):
         """Told of an accepted call: its arguments, and the answer of a post or a pay."""
@@ -61,9 +70,13 @@ class Tally:
 
     def note_post(self, _forecast, rate):
         self.rates[self.year] = rate
+        self.charged = self.charges_summed()
 
     def note_bill(self, participant, month, kwh):
-        self.readings[self.year, participant, month] = kwh
+        rate, readings = self.rates[self.year], self.readings[self.year]
+        noted = readings.get((participant, month), 0)
+        self.charged += charge(kwh, rate) - charge(noted, rate)
+        readings[participant, month] = kwh
 
     note_resettle = note_bill
 
@@ -71,7 +84,7 @@ class Tally:
         self.payments += answer[0]
 
     def note_state(self, project, actual):
-        self.actuals[self.year, project] = actual
+        self.actuals[self.year][project] = actual
 
     def note_look(self, _project):
         """A look notes nothing."""
@@ -89,6 +102,8 @@ class Tally:
             self.receipts[project] += received
             self.interest[project] += borne
             self.closings[project] = (owed, borne)
+        for project, actual in self.actuals[self.year].items():
+            self.closed_actuals[project] += actual
         self.closed_years.append(self.year)
         self.year += 1
 
@@ -119,11 +134,20 @@ def check_law(book, tally, accepted):
         check_shares(book, tally)
     if accepted == "close":
         check_interest(tally.closings.values())
+        check_sums(tally)
+
+
+def check_sums(tally):
+    """The sums that were kept up note by note are those over all that is noted."""
+    check(tally.charges() == tally.charges_summed(), "charges", tally.charges())
+    for project in tally.projects:
+        kept_up, summed = tally.closed_actuals[project], tally.closed_actuals_summed(project)
+        check(kept_up == summed, "closed actuals", project, kept_up, summed)
 
 
 def check_lifetime(row, tally):
     received = tally.receipts[row.project] + 100 * (row.due_now + row.due_next) + row.kept
-    due = 100 * tally.closed_actuals(row.project) + tally.interest[row.project]
+    due = 100 * tally.closed_actuals[row.project] + tally.interest[row.project]
     check(received == due, "lifetimes_add_up", row, received, due)
     check(abs(row.kept) <= 50, "lifetimes_add_up: kept", row)
 

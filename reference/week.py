@@ -3,30 +3,7 @@
 from book import TableJournal
 from filings import filing, worked_filing
 from law import Run
-from rules import Refused, holding, quarterly
-
-WHY = {
-    1: "the project number is not 1 to 99,999,999",
-    2: "the year is not a draft",
-    3: "the project has no row, and there are 64 rows already",
-    4: "the requirement or column 16 is not 0 to 100,000,000 dollars",
-    5: "there is no row, or a row has no requirement for this year",
-    6: "the forecast is not 1 to 1,000,000,000 megawatt-hours",
-    7: "the usage rate is not 1 to 1,000,000 ten-thousandths of a dollar",
-    8: "the participant, the month or the kilowatt-hours are outside their ranges",
-    9: "the year is not posted",
-    10: "kilowatt-hours are held for this participant and month already",
-    11: "the money afterwards is not 0 to 90,000,000,000 cents",
-    12: "the journal has no place for this participant and month",
-    13: "nothing is held for this participant and month",
-    14: "the project has no row",
-    15: "the actual is not 0 to 100,000,000 dollars",
-    16: "a row has no actual for this year",
-    17: "a row has not been paid its share",
-    18: "the year is 65,535, the last one",
-    19: "one of the 24 months from January of the year on has no rate",
-    20: "a true-up is not within 100,000,000 dollars either way",
-}
+from rules import WHY, Refused, holding, quarterly
 
 PARTICIPANTS = 12
 
