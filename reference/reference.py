@@ -11,10 +11,15 @@ from here:
     python3 reference/reference.py answers < CASES    what `filing_cases` prints for such a table
     python3 reference/reference.py random SEED COUNT  the same kind of table, made at random
     python3 reference/reference.py law SEED COUNT     calls made at random on books, with the law checked after each
+    python3 reference/reference.py daybook [--explain] < DAYBOOK
+                                                      what `daybook` prints for a daybook, with the law checked after each
+    python3 reference/reference.py daybooks SEED COUNT
+                                                      a daybook of so many entries, made at random
 """
 
 import sys
 
+from daybook import replay
 from filings import LINES, answers, enter, filing_cases, finish, framed, pages, price, random_cases
 from law import random_runs
 from rules import Refused
@@ -250,6 +255,8 @@ def main():
         binary.write(framed(filing_cases()))
     elif words == ["answers"]:
         print(answers(sys.stdin.buffer.read()), end="")
+    elif words in (["daybook"], ["daybook", "--explain"]):
+        binary.writelines(replay(sys.stdin.buffer.read(), explain=len(words) == 2))
     elif len(words) == 3 and words[0] == "random":
         binary.write(framed(random_cases(int(words[1]), int(words[2]))))
     elif len(words) == 3 and words[0] == "law":
