@@ -21,7 +21,7 @@ import sys
 
 from daybook import replay
 from filings import LINES, answers, enter, filing_cases, finish, framed, pages, price, random_cases
-from law import random_runs
+from made import random_daybook, random_runs
 from rules import Refused
 from week import week
 
@@ -259,6 +259,8 @@ def main():
         binary.writelines(replay(sys.stdin.buffer.read(), explain=len(words) == 2))
     elif len(words) == 3 and words[0] == "random":
         binary.write(framed(random_cases(int(words[1]), int(words[2]))))
+    elif len(words) == 3 and words[0] == "daybooks":
+        binary.write(random_daybook(int(words[1]), int(words[2])))
     elif len(words) == 3 and words[0] == "law":
         for line in random_runs(int(words[1]), int(words[2])):
             print(line)
