@@ -47,7 +47,8 @@ class Maker:
 
     def forecast(self):
         """One that makes a usage rate in range, if any does."""
-        forecast = self.book.total() * 10_000 // self.dice.randrange(1, self.usage_rate + 1)
+        rate = self.dice.choice([self.usage_rate, self.dice.randrange(1, self.usage_rate + 1)])
+        forecast = self.book.total() * 10_000 // rate
         return min(max(forecast, 1), FORECAST)
 
     def requirement(self, project):
@@ -57,8 +58,10 @@ class Maker:
         return min(self.dollars() + max(0, -due_now), DOLLARS - max(0, due_now))
 
     def kwh(self):
-        """Where it is fair, a sixth of the total at most is charged for them."""
+        """Where it is fair, a sixth of the total at most is charged for them; seldom the most there can be."""
         book, largest = self.book, self.largest_kwh
+        if self.dice.random() < 0.01:
+            return KWH
         if self.fair and book.rate:
             largest = min(book.total() * 10_000_000 // (6 * book.rate), KWH)
         return self.dice.randrange(largest + 1)
@@ -88,7 +91,8 @@ class Maker:
         unfiled = [row.project for row in rows if row.requirement is None]
         if len(rows) >= self.fewest and not unfiled and dice.random() < 0.5:
             return "post", self.forecast()
-        project = dice.choice(unfiled or self.projects)
+        unknown = [project for project in self.projects if not self.book.row_of(project)]
+        project = dice.choice(unfiled or unknown or self.projects)
         return "file", project, self.requirement(project)
 
     def next_of_posted(self):
