@@ -1,0 +1,39 @@
+#!/bin/sh
+# Compares `daybook` with the second program, to the byte, on the example, on the stored daybook and on daybooks made
+# at random. It proves and builds the program first. Usage: tools/compare-daybooks.sh [SEED [COUNT [RUNS]]]
+set -eu
+root=$(cd "$(dirname "$0")/.." && pwd)
+seed=${1:-1}
+count=${2:-10000}
+runs=${3:-10}
+work=$(mktemp -d)
+trap 'rm -rf "$work"' EXIT
+ours=$root/crates/daybook/out/daybook
+
+second() {
+    python3 "$root/reference/reference.py" "$@"
+}
+
+times() {
+    LC_ALL=C grep -acE -e "$1" "$work/second" || true
+}
+
+(cd "$root/crates/daybook" && rt run < stdin > "$work/ours")
+cmp "$work/ours" "$root/crates/daybook/stdout"
+echo "the stored daybook agrees"
+
+"$ours" < "$root/examples/week.daybook" | cmp - "$root/examples/week.answers"
+echo "the example agrees"
+
+last=$((seed + runs - 1))
+while [ "$seed" -le "$last" ]; do
+    second daybooks "$seed" "$count" > "$work/daybook"
+    for explain in "" --explain; do
+        "$ours" $explain < "$work/daybook" > "$work/ours"
+        second daybook $explain < "$work/daybook" > "$work/second"
+        cmp "$work/ours" "$work/second"
+    done
+    echo "seed $seed: $(times '^[0-9]+: ') entries agree: $(times ' -> opened') books, $(times ' -> closed') closes," \
+        "$(times ' -> refused') refused, $(times ' -> unread$') unread"
+    seed=$((seed + 1))
+done
