@@ -14,7 +14,7 @@ second() {
     python3 "$root/reference/reference.py" "$@"
 }
 
-times() {
+lines_with() {
     LC_ALL=C grep -acE -e "$1" "$work/second" || true
 }
 
@@ -31,9 +31,9 @@ while [ "$seed" -le "$last" ]; do
     for explain in "" --explain; do
         "$ours" $explain < "$work/daybook" > "$work/ours"
         second daybook $explain < "$work/daybook" > "$work/second"
-        cmp "$work/ours" "$work/second"
+        cmp "$work/ours" "$work/second" || { echo "seed $seed $explain: they differ" >&2; exit 1; }
     done
-    echo "seed $seed: $(times '^[0-9]+: ') entries agree: $(times ' -> opened') books, $(times ' -> closed') closes," \
-        "$(times ' -> refused') refused, $(times ' -> unread$') unread"
+    echo "seed $seed: $(lines_with '^[0-9]+: ') entries agree: $(lines_with ' -> opened') books," \
+        "$(lines_with ' -> closed') closes, $(lines_with ' -> refused') refused, $(lines_with ' -> unread$') unread"
     seed=$((seed + 1))
 done
