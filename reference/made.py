@@ -3,7 +3,7 @@
 import random
 from collections import Counter, defaultdict
 
-from daybook import LONGEST_LINE, Desk, Unread, entry
+from daybook import LONGEST_LINE, Desk, entry
 from rules import Refused
 
 FORECAST, DOLLARS, KWH, LAST_YEAR = 1_000_000_000, 100_000_000, 10_000_000_000, 65_535
