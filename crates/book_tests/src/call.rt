@@ -4,7 +4,7 @@ use rates::FlatList;
 use settlement::Refusal;
 
 /// A call on a book with its arguments.
-#[derive(Clone, Copy, PartialEq, Eq, Debug)]
+#[derive(Clone, Copy)]
 pub enum Call {
     /// Project and requirement.
     File(i64, i64),
@@ -27,7 +27,7 @@ pub enum Call {
 #[derive(Clone, Copy, PartialEq, Eq, Debug)]
 pub enum Answer {
     Done,
-    /// A usage rate, a charge or a change of one.
+    /// A usage rate, a charge or its change, or what the row looked at is paid.
     Amount(i64),
     /// The change in the sum of paid, and the till.
     Paid(i64, i64),
@@ -35,42 +35,50 @@ pub enum Answer {
     Refused(u8),
 }
 
+impl Answer {
+    fn done(outcome: Result<(), Refusal>) -> Answer {
+        match outcome {
+            Ok(()) => Answer::Done,
+            Err(refusal) => Answer::Refused(refusal.number()),
+        }
+    }
+
+    fn amount(outcome: Result<i64, Refusal>) -> Answer {
+        match outcome {
+            Ok(amount) => Answer::Amount(amount),
+            Err(refusal) => Answer::Refused(refusal.number()),
+        }
+    }
+
+    fn paid(outcome: Result<(i64, i64), Refusal>) -> Answer {
+        match outcome {
+            Ok((change, till)) => Answer::Paid(change, till),
+            Err(refusal) => Answer::Refused(refusal.number()),
+        }
+    }
+}
+
 impl Call {
     /// Makes the call.
     pub fn on<J: Journal>(self, book: &mut Book<J>) -> Answer {
-        self.answer_of(book)
-            .unwrap_or_else(|refusal| Answer::Refused(refusal.number()))
-    }
-
-    fn answer_of<J: Journal>(self, book: &mut Book<J>) -> Result<Answer, Refusal> {
-        Ok(match self {
-            Call::File(project, requirement) => {
-                book.file(project, requirement)?;
-                Answer::Done
-            }
-            Call::Post(forecast) => Answer::Amount(book.post(forecast)?),
+        match self {
+            Call::File(project, requirement) => Answer::done(book.file(project, requirement)),
+            Call::Post(forecast) => Answer::amount(book.post(forecast)),
             Call::Bill(participant, month, kwh) => {
-                Answer::Amount(book.bill(participant, month, kwh)?)
+                Answer::amount(book.bill(participant, month, kwh))
             }
             Call::Resettle(participant, month, kwh) => {
-                Answer::Amount(book.resettle(participant, month, kwh)?)
+                Answer::amount(book.resettle(participant, month, kwh))
             }
-            Call::Pay => {
-                let (change, till) = book.pay()?;
-                Answer::Paid(change, till)
-            }
-            Call::State(project, actual) => {
-                book.state(project, actual)?;
-                Answer::Done
-            }
-            Call::Close(rate) => {
-                book.close(&FlatList::new(rate))?;
-                Answer::Done
-            }
-            Call::Look(project) => {
-                book.look(project)?;
-                Answer::Done
-            }
-        })
+            Call::Pay => Answer::paid(book.pay()),
+            Call::State(project, actual) => Answer::done(book.state(project, actual)),
+            Call::Close(rate) => Answer::done(book.close(&FlatList::new(rate))),
+            Call::Look(project) => Answer::amount(paid_to(book, project)),
+        }
     }
+}
+
+/// What a project is paid.
+fn paid_to<J: Journal>(book: &Book<J>, project: i64) -> Result<i64, Refusal> {
+    Ok(book.look(project)?.paid)
 }

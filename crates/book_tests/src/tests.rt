@@ -11,6 +11,7 @@ use journals::{Entry, EntryJournal, Journal, TableJournal};
 use settlement::{RowAnswer, Standing};
 use std::alloc::{AllocError, Global};
 use std::process::Abort;
+use std::test::Fail;
 
 /// A call, and what the book answers.
 type Step = (Call, Answer);
@@ -34,29 +35,30 @@ fn book_over_entry(heap: Global, year: u16) -> Result<Book<EntryJournal>, AllocE
     Ok(Book::open(EntryJournal::new(vec![in heap; entry]?), year))
 }
 
-/// What can be seen of a book with at most two rows.
+/// What is seen of a book: where it stands and its first two rows.
 fn shown<J: Journal>(book: &Book<J>) -> (Standing, [Option<RowAnswer>; 2]) {
     (book.standing(), [book.row_at(0), book.row_at(1)])
 }
 
-/// Makes the calls one after another. Each has its answer, and a refused one changes nothing that is
-/// shown.
+/// Makes a call. It has its answer, and a refused one changes nothing that is seen.
+fn check_step<J: Journal>(rt: &impl Abort, book: &mut Book<J>, place: usize, step: Step) {
+    let (call, answer) = step;
+    let before = shown(book);
+    assert_eq!(rt; call.on(book), answer, "at step {place}");
+    if matches!(answer, Answer::Refused(_)) {
+        assert_eq!(rt; shown(book), before, "after step {place}");
+    }
+}
+
+/// Makes the calls one after another.
 fn check_steps<J: Journal>(rt: &impl Abort, book: &mut Book<J>, steps: &[Step]) {
-    for &(call, answer) in steps {
-        let before = shown(book);
-        assert_eq!(rt; call.on(book), answer, "at {call:?}");
-        if let Answer::Refused(_) = answer {
-            assert_eq!(rt; shown(book), before, "after {call:?}");
-        }
+    for (place, step) in steps.iter().enumerate() {
+        check_step(rt, book, place, *step);
     }
 }
 
 /// The same on a new book over either journal.
-fn check_new_books(
-    rt: &(impl Abort + AllocGlobal),
-    year: u16,
-    steps: &[Step],
-) -> Result<(), AllocError> {
+fn check_year(rt: &(impl Abort + AllocGlobal), year: u16, steps: &[Step]) -> Result<(), Fail> {
     check_steps(rt, &mut book_over_table(rt.alloc(), year)?, steps);
     check_steps(rt, &mut book_over_entry(rt.alloc(), year)?, steps);
     Ok(())

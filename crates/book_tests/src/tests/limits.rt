@@ -1,9 +1,9 @@
 use crate::call::Answer::{Amount, Done, Paid, Refused};
 use crate::call::Call::{Bill, Close, File, Look, Pay, Post, Resettle, State};
-use crate::tests::{Step, book_over_entry, check_new_books, check_steps};
+use crate::tests::{Step, book_over_entry, check_steps, check_year};
+use std::alloc::AllocError;
+use std::process::Abort;
 use std::test::Fail;
-
-const EXTREMES: [i64; 2] = [i64::MIN, i64::MAX];
 
 #[rattlefmt::skip]
 static DRAFT: [Step; 1] = [
@@ -29,7 +29,7 @@ fn calls_on_a_draft(extreme: i64) -> [Step; 6] {
 }
 
 #[rattlefmt::skip]
-fn calls_on_a_posted_year(extreme: i64) -> [Step; 11] {
+fn calls_on_a_posted_year(extreme: i64) -> [Step; 13] {
     [
         (Bill(extreme, 1, 1), Refused(8)),
         (Bill(1, extreme, 1), Refused(8)),
@@ -42,22 +42,24 @@ fn calls_on_a_posted_year(extreme: i64) -> [Step; 11] {
         (State(extreme, 1), Refused(1)),
         (State(7, extreme), Refused(15)),
         (State(extreme, extreme), Refused(1)),
+        (Bill(1, 1, 1_000), Refused(10)),
+        (Resettle(1, 1, 1_000), Amount(0)),
     ]
+}
+
+fn check_extreme(rt: &(impl Abort + AllocGlobal), extreme: i64) -> Result<(), AllocError> {
+    let mut book = book_over_entry(rt.alloc(), 2026)?;
+    check_steps(rt, &mut book, &DRAFT);
+    check_steps(rt, &mut book, &calls_on_a_draft(extreme));
+    check_steps(rt, &mut book, &POSTED);
+    check_steps(rt, &mut book, &calls_on_a_posted_year(extreme));
+    Ok(())
 }
 
 #[test]
 fn extreme_arguments_change_nothing(rt: HostRuntime) -> Result<(), Fail> {
-    let mut book = book_over_entry(rt.alloc(), 2026)?;
-    check_steps(&rt, &mut book, &DRAFT);
-    for extreme in EXTREMES {
-        check_steps(&rt, &mut book, &calls_on_a_draft(extreme));
-    }
-    check_steps(&rt, &mut book, &POSTED);
-    for extreme in EXTREMES {
-        check_steps(&rt, &mut book, &calls_on_a_posted_year(extreme));
-    }
-    // the journal still holds what was billed
-    assert_eq!(rt; Resettle(1, 1, 1_000).on(&mut book), Amount(0));
+    check_extreme(&rt, i64::MIN)?;
+    check_extreme(&rt, i64::MAX)?;
     Ok(())
 }
 
@@ -70,19 +72,18 @@ static LAST_YEAR: [Step; 10] = [
     (Resettle(1, 1, 500), Amount(-100)),
     (Pay, Paid(100, 0)),
     (State(7, 3), Done),
-    (Look(7), Done),
+    (Look(7), Amount(100)),
     (Close(100_001), Refused(18)), // 18, 19
     (Close(0), Refused(18)),
 ];
 
 #[test]
 fn last_year_has_every_call_but_close(rt: HostRuntime) -> Result<(), Fail> {
-    check_new_books(&rt, 65_535, &LAST_YEAR)?;
-    Ok(())
+    check_year(&rt, 65_535, &LAST_YEAR)
 }
 
 #[rattlefmt::skip]
-static LAST_CLOSE: [Step; 7] = [
+static LAST_CLOSE: [Step; 9] = [
     (File(7, 1), Done),
     (Post(1), Amount(10_000)),
     (State(7, 1), Done),
@@ -90,12 +91,11 @@ static LAST_CLOSE: [Step; 7] = [
     (File(7, 1), Done),
     (Post(1), Amount(10_000)),
     (Pay, Paid(0, 0)),
+    (State(7, 1), Done),
+    (Close(0), Refused(18)),
 ];
 
 #[test]
 fn year_before_the_last_is_closed(rt: HostRuntime) -> Result<(), Fail> {
-    let mut book = book_over_entry(rt.alloc(), 65_534)?;
-    check_steps(&rt, &mut book, &LAST_CLOSE);
-    assert_eq!(rt; book.standing().year, 65_535);
-    Ok(())
+    check_year(&rt, 65_534, &LAST_CLOSE)
 }

@@ -1,6 +1,6 @@
 use crate::call::Answer::{Amount, Done, Paid, Refused};
 use crate::call::Call::{Bill, Close, File, Look, Pay, Post, Resettle, State};
-use crate::tests::{Step, check_new_books};
+use crate::tests::{Step, check_year};
 use std::test::Fail;
 
 // Each refused call is answered no at the questions in the comment, and refused by the first.
@@ -27,8 +27,7 @@ static POST: [Step; 16] = [
 
 #[test]
 fn post_asks_2_5_6_7(rt: HostRuntime) -> Result<(), Fail> {
-    check_new_books(&rt, 2026, &POST)?;
-    Ok(())
+    check_year(&rt, 2026, &POST)
 }
 
 #[rattlefmt::skip]
@@ -52,8 +51,7 @@ static BILL: [Step; 15] = [
 
 #[test]
 fn bill_asks_8_9_10_11_12(rt: HostRuntime) -> Result<(), Fail> {
-    check_new_books(&rt, 2026, &BILL)?;
-    Ok(())
+    check_year(&rt, 2026, &BILL)
 }
 
 #[rattlefmt::skip]
@@ -72,8 +70,7 @@ static RESETTLE: [Step; 10] = [
 
 #[test]
 fn resettle_asks_8_9_13_11(rt: HostRuntime) -> Result<(), Fail> {
-    check_new_books(&rt, 2026, &RESETTLE)?;
-    Ok(())
+    check_year(&rt, 2026, &RESETTLE)
 }
 
 #[rattlefmt::skip]
@@ -97,8 +94,7 @@ static ROW_CALLS: [Step; 15] = [
 
 #[test]
 fn pay_asks_9_and_state_asks_1_9_14_15_and_look_asks_1_14(rt: HostRuntime) -> Result<(), Fail> {
-    check_new_books(&rt, 2026, &ROW_CALLS)?;
-    Ok(())
+    check_year(&rt, 2026, &ROW_CALLS)
 }
 
 // A rate of 100,001 counts as none. Of the actual of 100,000,000 dollars 10 cents are paid: at a rate
@@ -120,8 +116,7 @@ static CLOSE: [Step; 11] = [
 
 #[test]
 fn close_asks_9_16_17_19_20(rt: HostRuntime) -> Result<(), Fail> {
-    check_new_books(&rt, 2026, &CLOSE)?;
-    Ok(())
+    check_year(&rt, 2026, &CLOSE)
 }
 
 #[rattlefmt::skip]
@@ -141,6 +136,5 @@ static CLOSE_OF_THE_LAST_YEAR: [Step; 11] = [
 
 #[test]
 fn close_asks_18_before_19_and_20(rt: HostRuntime) -> Result<(), Fail> {
-    check_new_books(&rt, 65_535, &CLOSE_OF_THE_LAST_YEAR)?;
-    Ok(())
+    check_year(&rt, 65_535, &CLOSE_OF_THE_LAST_YEAR)
 }
