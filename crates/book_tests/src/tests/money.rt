@@ -1,7 +1,6 @@
 use crate::call::Answer::{Amount, Done, Paid, Refused};
 use crate::call::Call::{Bill, Close, File, Look, Pay, Post, Resettle, State};
 use crate::tests::{Step, check_year};
-use std::test::Fail;
 
 #[rattlefmt::skip]
 static ZERO_KWH: [Step; 6] = [
@@ -14,8 +13,8 @@ static ZERO_KWH: [Step; 6] = [
 ];
 
 #[test]
-fn zero_kwh_are_held(rt: HostRuntime) -> Result<(), Fail> {
-    check_year(&rt, 2026, &ZERO_KWH)
+fn zero_kwh_are_held(rt: HostRuntime) {
+    check_year(&rt, 2026, &ZERO_KWH);
 }
 
 #[rattlefmt::skip]
@@ -32,8 +31,8 @@ static FULL_JOURNAL: [Step; 9] = [
 ];
 
 #[test]
-fn full_journal_resettles_and_bills_no_more(rt: HostRuntime) -> Result<(), Fail> {
-    check_year(&rt, 2026, &FULL_JOURNAL)
+fn full_journal_resettles_and_bills_no_more(rt: HostRuntime) {
+    check_year(&rt, 2026, &FULL_JOURNAL);
 }
 
 #[rattlefmt::skip]
@@ -51,8 +50,8 @@ static RESETTLED_UNPAID: [Step; 10] = [
 ];
 
 #[test]
-fn close_after_a_resettlement_asks_for_a_pay(rt: HostRuntime) -> Result<(), Fail> {
-    check_year(&rt, 2026, &RESETTLED_UNPAID)
+fn close_after_a_resettlement_asks_for_a_pay(rt: HostRuntime) {
+    check_year(&rt, 2026, &RESETTLED_UNPAID);
 }
 
 // Columns 16 of 1 and 2.
@@ -72,6 +71,6 @@ static THREE_CENTS: [Step; 11] = [
 ];
 
 #[test]
-fn three_steps_of_a_cent_pay_1_and_2(rt: HostRuntime) -> Result<(), Fail> {
-    check_year(&rt, 2026, &THREE_CENTS)
+fn three_steps_of_a_cent_pay_1_and_2(rt: HostRuntime) {
+    check_year(&rt, 2026, &THREE_CENTS);
 }

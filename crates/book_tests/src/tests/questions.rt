@@ -1,7 +1,6 @@
 use crate::call::Answer::{Amount, Done, Paid, Refused};
 use crate::call::Call::{Bill, Close, File, Look, Pay, Post, Resettle, State};
 use crate::tests::{Step, check_year};
-use std::test::Fail;
 
 // Each refused call is answered no at the questions in the comment, and refused by the first.
 
@@ -26,8 +25,8 @@ static POST: [Step; 16] = [
 ];
 
 #[test]
-fn post_asks_2_5_6_7(rt: HostRuntime) -> Result<(), Fail> {
-    check_year(&rt, 2026, &POST)
+fn post_asks_2_5_6_7(rt: HostRuntime) {
+    check_year(&rt, 2026, &POST);
 }
 
 #[rattlefmt::skip]
@@ -50,8 +49,8 @@ static BILL: [Step; 15] = [
 ];
 
 #[test]
-fn bill_asks_8_9_10_11_12(rt: HostRuntime) -> Result<(), Fail> {
-    check_year(&rt, 2026, &BILL)
+fn bill_asks_8_9_10_11_12(rt: HostRuntime) {
+    check_year(&rt, 2026, &BILL);
 }
 
 #[rattlefmt::skip]
@@ -69,8 +68,8 @@ static RESETTLE: [Step; 10] = [
 ];
 
 #[test]
-fn resettle_asks_8_9_13_11(rt: HostRuntime) -> Result<(), Fail> {
-    check_year(&rt, 2026, &RESETTLE)
+fn resettle_asks_8_9_13_11(rt: HostRuntime) {
+    check_year(&rt, 2026, &RESETTLE);
 }
 
 #[rattlefmt::skip]
@@ -93,8 +92,8 @@ static ROW_CALLS: [Step; 15] = [
 ];
 
 #[test]
-fn pay_asks_9_and_state_asks_1_9_14_15_and_look_asks_1_14(rt: HostRuntime) -> Result<(), Fail> {
-    check_year(&rt, 2026, &ROW_CALLS)
+fn pay_asks_9_and_state_asks_1_9_14_15_and_look_asks_1_14(rt: HostRuntime) {
+    check_year(&rt, 2026, &ROW_CALLS);
 }
 
 // A rate of 100,001 counts as none. Of the actual of 100,000,000 dollars 10 cents are paid: at a rate
@@ -115,8 +114,8 @@ static CLOSE: [Step; 11] = [
 ];
 
 #[test]
-fn close_asks_9_16_17_19_20(rt: HostRuntime) -> Result<(), Fail> {
-    check_year(&rt, 2026, &CLOSE)
+fn close_asks_9_16_17_19_20(rt: HostRuntime) {
+    check_year(&rt, 2026, &CLOSE);
 }
 
 #[rattlefmt::skip]
@@ -135,6 +134,6 @@ static CLOSE_OF_THE_LAST_YEAR: [Step; 11] = [
 ];
 
 #[test]
-fn close_asks_18_before_19_and_20(rt: HostRuntime) -> Result<(), Fail> {
-    check_year(&rt, 65_535, &CLOSE_OF_THE_LAST_YEAR)
+fn close_asks_18_before_19_and_20(rt: HostRuntime) {
+    check_year(&rt, 65_535, &CLOSE_OF_THE_LAST_YEAR);
 }

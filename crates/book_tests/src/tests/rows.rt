@@ -3,9 +3,7 @@ use crate::call::Call::{Bill, Close, File, Look, Pay, Post, State};
 use crate::tests::{Step, book_over_table, check_steps, check_year};
 use book::Book;
 use journals::TableJournal;
-use std::alloc::AllocError;
 use std::process::Abort;
-use std::test::Fail;
 
 #[rattlefmt::skip]
 static REFUSED_FILES: [Step; 7] = [
@@ -20,8 +18,8 @@ static REFUSED_FILES: [Step; 7] = [
 
 // A refused call changes nothing that `check_steps` sees, the number of rows too.
 #[test]
-fn file_refused_by_4_adds_no_row(rt: HostRuntime) -> Result<(), Fail> {
-    check_year(&rt, 2026, &REFUSED_FILES)
+fn file_refused_by_4_adds_no_row(rt: HostRuntime) {
+    check_year(&rt, 2026, &REFUSED_FILES);
 }
 
 #[rattlefmt::skip]
@@ -39,18 +37,17 @@ static OVER_64_ROWS: [Step; 10] = [
 ];
 
 /// A book with 64 rows, of projects 1 to 64.
-fn book_of_64_rows(rt: &(impl Abort + AllocGlobal)) -> Result<Book<TableJournal>, AllocError> {
-    let mut book = book_over_table(rt.alloc(), 2026)?;
+fn book_of_64_rows(rt: &(impl Abort + AllocGlobal)) -> Book<TableJournal> {
+    let mut book = book_over_table(rt, 2026);
     for project in 1..=64 {
         assert_eq!(rt; File(project, 1).on(&mut book), Done);
     }
-    Ok(book)
+    book
 }
 
 #[test]
-fn row_of_64_files_again_and_a_65th_project_is_refused(rt: HostRuntime) -> Result<(), Fail> {
-    check_steps(&rt, &mut book_of_64_rows(&rt)?, &OVER_64_ROWS);
-    Ok(())
+fn row_of_64_files_again_and_a_65th_project_is_refused(rt: HostRuntime) {
+    check_steps(&rt, &mut book_of_64_rows(&rt), &OVER_64_ROWS);
 }
 
 // A dollar too much is paid in 2026 and due back in 2028; a dollar too little in 2027 is due in 2029.
@@ -82,6 +79,6 @@ static DUES: [Step; 23] = [
 ];
 
 #[test]
-fn file_asks_4_of_column_16_too(rt: HostRuntime) -> Result<(), Fail> {
-    check_year(&rt, 2026, &DUES)
+fn file_asks_4_of_column_16_too(rt: HostRuntime) {
+    check_year(&rt, 2026, &DUES);
 }
