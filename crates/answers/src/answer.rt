@@ -32,6 +32,24 @@ pub enum Answer {
     },
 }
 
+impl Answer {
+    ghost use Rattle.std.specs.Prelude.{◌≡◌, ◌≢◌, IfNone, IfSome};
+    ghost use Rattle.answers.specs.Answers.{HasItsOwnText};
+    ghost use Rattle.answers.specs.declared.answer.Answer.TheVariants.{Refused};
+
+    /// The refusal, if it is one.
+    pub fn refusal(&self) -> Option<Refusal>
+        ensures refusal { IfSome result (λ why. self.now ≡ Refused why) }
+        ensures no_refusal { IfNone result ((why : _) → self.now ≢ Refused why) }
+        ensures no_other_answer_has_its_text { HasItsOwnText self.now }
+    {
+        match *self {
+            Answer::Refused(refusal) => Some(refusal),
+            _ => None,
+        }
+    }
+}
+
 impl fmt::Display for Answer {
     ghost use Rattle.std.specs.Prelude.{Some};
     ghost use Rattle.answers.specs.Answers.{answer_text};
