@@ -34,11 +34,12 @@ fn book_over_entry(rt: &(impl Abort + AllocGlobal), year: u16) -> Book<EntryJour
     Book::open(EntryJournal::new(entries), year)
 }
 
-/// What is seen of a book: where it stands and its first two rows.
-type Shown = (Standing, [Option<RowAnswer>; 2]);
+/// What is seen of a book: where it stands, and the rows at positions 0 to 2.
+type Shown = (Standing, [Option<RowAnswer>; 3]);
 
 fn shown<J: Journal>(book: &Book<J>) -> Shown {
-    (book.standing(), [book.row_at(0), book.row_at(1)])
+    let rows = [book.row_at(0), book.row_at(1), book.row_at(2)];
+    (book.standing(), rows)
 }
 
 /// Makes a call. It has its answer, and a refused one changes nothing that is seen.

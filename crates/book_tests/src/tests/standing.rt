@@ -58,15 +58,19 @@ static PAID: [Call; 4] = [Post(1), Bill(1, 1, 333), Pay, State(7, 3)];
 #[rattlefmt::skip]
 static CLOSED: [Call; 2] = [State(9, 1), Close(25_000)];
 
+/// The book stands so, with these rows and no other.
 fn check_shown(rt: &impl Abort, book: &Book<EntryJournal>, at: Standing, rows: [RowAnswer; 2]) {
     let [first, second] = rows;
-    assert!(rt;
-        shown(book) == (at, [Some(first), Some(second)]),
-        "in {}",
-        at.year
-    );
-    assert!(rt; book.row_at(2).is_none());
-    assert!(rt; book.row_at(usize::MAX).is_none());
+    assert!(rt; shown(book) == (at, [Some(first), Some(second), None]));
+}
+
+#[test]
+fn no_row_stands_beyond_the_last(rt: HostRuntime) {
+    let mut book = book_over_entry(&rt, 2026);
+    make(&mut book, &FILED);
+    for position in [2, 63, 64, usize::MAX] {
+        assert_eq!(rt; book.row_at(position), None);
+    }
 }
 
 #[test]
@@ -79,7 +83,7 @@ fn opened_book_has_nothing(rt: HostRuntime) {
         till: 0,
         rows: 0,
     };
-    assert!(rt; shown(&book) == (opened, [None, None]));
+    assert!(rt; shown(&book) == (opened, [None, None, None]));
 }
 
 #[test]

@@ -4,6 +4,7 @@ use crate::call::Call::{Bill, Close, File, Pay, Post, Resettle, State};
 use crate::tests::{Step, book_over_entry, book_over_table, check_step};
 use book::Book;
 use journals::Journal;
+use settlement::Standing;
 use std::process::Abort;
 
 /// The worked year of docs/BOOK.md: each call with its answer, and then the money, what projects 7 and 9
@@ -35,10 +36,14 @@ fn cents_of<J: Journal>(book: &Book<J>) -> [i64; 4] {
     [standing.money, first, second, standing.till]
 }
 
+fn check_cents<J: Journal>(rt: &impl Abort, book: &Book<J>, place: usize, cents: [i64; 4]) {
+    assert_eq!(rt; cents_of(book), cents, "after step {place}");
+}
+
 fn check_worked_year<J: Journal>(rt: &impl Abort, book: &mut Book<J>) {
     for (place, (step, cents)) in WORKED_YEAR.iter().enumerate() {
         check_step(rt, book, place, *step);
-        assert_eq!(rt; cents_of(book), *cents, "after step {place}");
+        check_cents(rt, book, place, *cents);
     }
 }
 
@@ -58,38 +63,22 @@ struct Year {
     rate: u32,
 }
 
+/// Years one after another. What each close leaves is by the second program: the year, true-up and kept
+/// cents of projects 7 and 9, and the money.
 #[rattlefmt::skip]
-static YEARS: [Year; 12] = [
-    Year { requirements: [1_000, 500], forecast: 100, kwh: 90_000, actuals: [1_010, 480], rate: 25_000 },
-    Year { requirements: [1_000, 500], forecast: 100, kwh: 110_000, actuals: [900, 520], rate: 0 },
-    Year { requirements: [1_100, 450], forecast: 120, kwh: 100_000, actuals: [1_130, 430], rate: 100_000 },
-    Year { requirements: [1_050, 470], forecast: 90, kwh: 95_001, actuals: [1_000, 470], rate: 12_345 },
-    Year { requirements: [990, 600], forecast: 100, kwh: 80_000, actuals: [990, 601], rate: 25_000 },
-    Year { requirements: [1_200, 100], forecast: 110, kwh: 70_000, actuals: [1_250, 20], rate: 31_000 },
-    Year { requirements: [1_150, 213], forecast: 100, kwh: 101_010, actuals: [1_100, 290], rate: 28_750 },
-    Year { requirements: [1_000, 320], forecast: 80, kwh: 88_888, actuals: [1_003, 333], rate: 19_999 },
-    Year { requirements: [1_001, 310], forecast: 100, kwh: 100_001, actuals: [870, 310], rate: 99_999 },
-    Year { requirements: [1_020, 330], forecast: 105, kwh: 98_765, actuals: [1_020, 345], rate: 1 },
-    Year { requirements: [900, 340], forecast: 95, kwh: 95_000, actuals: [1_000, 340], rate: 50_000 },
-    Year { requirements: [950, 350], forecast: 100, kwh: 104_000, actuals: [940, 360], rate: 25_000 },
-];
-
-/// What each close leaves, by the second program: true-up and kept cents of projects 7 and 9, and the
-/// money.
-#[rattlefmt::skip]
-static CLOSED: [[i64; 5]; 12] = [
-    [117, -40, 32, -20, 0],
-    [-200, -40, -30, -20, 0],
-    [288, 32, 75, -38, 1],
-    [-100, 21, -26, 45, 1],
-    [271, 15, 145, -39, 1],
-    [484, -37, -57, -43, 1],
-    [-69, -17, 78, 2, 1],
-    [-170, 19, -17, 2, 1],
-    [-162, -26, 0, 2, 1],
-    [50, 21, 34, -39, 1],
-    [112, 21, 0, -39, 1],
-    [-53, 21, -6, -7, 1],
+static YEARS: [(Year, [i64; 6]); 12] = [
+    (Year { requirements: [1_000, 500], forecast: 100, kwh: 90_000, actuals: [1_010, 480], rate: 25_000 }, [2027, 117, -40, 32, -20, 0]),
+    (Year { requirements: [1_000, 500], forecast: 100, kwh: 110_000, actuals: [900, 520], rate: 0 }, [2028, -200, -40, -30, -20, 0]),
+    (Year { requirements: [1_100, 450], forecast: 120, kwh: 100_000, actuals: [1_130, 430], rate: 100_000 }, [2029, 288, 32, 75, -38, 1]),
+    (Year { requirements: [1_050, 470], forecast: 90, kwh: 95_001, actuals: [1_000, 470], rate: 12_345 }, [2030, -100, 21, -26, 45, 1]),
+    (Year { requirements: [990, 600], forecast: 100, kwh: 80_000, actuals: [990, 601], rate: 25_000 }, [2031, 271, 15, 145, -39, 1]),
+    (Year { requirements: [1_200, 100], forecast: 110, kwh: 70_000, actuals: [1_250, 20], rate: 31_000 }, [2032, 484, -37, -57, -43, 1]),
+    (Year { requirements: [1_150, 213], forecast: 100, kwh: 101_010, actuals: [1_100, 290], rate: 28_750 }, [2033, -69, -17, 78, 2, 1]),
+    (Year { requirements: [1_000, 320], forecast: 80, kwh: 88_888, actuals: [1_003, 333], rate: 19_999 }, [2034, -170, 19, -17, 2, 1]),
+    (Year { requirements: [1_001, 310], forecast: 100, kwh: 100_001, actuals: [870, 310], rate: 99_999 }, [2035, -162, -26, 0, 2, 1]),
+    (Year { requirements: [1_020, 330], forecast: 105, kwh: 98_765, actuals: [1_020, 345], rate: 1 }, [2036, 50, 21, 34, -39, 1]),
+    (Year { requirements: [900, 340], forecast: 95, kwh: 95_000, actuals: [1_000, 340], rate: 50_000 }, [2037, 112, 21, 0, -39, 1]),
+    (Year { requirements: [950, 350], forecast: 100, kwh: 104_000, actuals: [940, 360], rate: 25_000 }, [2038, -53, 21, -6, -7, 1]),
 ];
 
 #[rattlefmt::skip]
@@ -115,10 +104,11 @@ fn true_up_at<J: Journal>(book: &Book<J>, position: usize) -> (i64, i64) {
     }
 }
 
-fn closed<J: Journal>(book: &Book<J>) -> [i64; 5] {
+fn closed<J: Journal>(book: &Book<J>) -> [i64; 6] {
+    let Standing { year, money, .. } = book.standing();
     let (true_up_7, kept_7) = true_up_at(book, 0);
     let (true_up_9, kept_9) = true_up_at(book, 1);
-    [true_up_7, kept_7, true_up_9, kept_9, book.standing().money]
+    [i64::from(year), true_up_7, kept_7, true_up_9, kept_9, money]
 }
 
 fn live_through<J: Journal>(book: &mut Book<J>, year: &Year) {
@@ -128,11 +118,10 @@ fn live_through<J: Journal>(book: &mut Book<J>, year: &Year) {
 }
 
 fn check_years<J: Journal>(rt: &impl Abort, book: &mut Book<J>) {
-    for (year, left) in YEARS.iter().zip(&CLOSED) {
+    for (year, left) in &YEARS {
         live_through(book, year);
-        assert_eq!(rt; closed(book), *left, "in {}", book.standing().year);
+        assert_eq!(rt; closed(book), *left);
     }
-    assert_eq!(rt; book.standing().year, 2038);
 }
 
 #[test]
