@@ -81,7 +81,6 @@ static YEARS: [(Year, [i64; 6]); 12] = [
     (Year { requirements: [950, 350], forecast: 100, kwh: 104_000, actuals: [940, 360], rate: 25_000 }, [2038, -53, 21, -6, -7, 1]),
 ];
 
-#[rattlefmt::skip]
 fn calls_of(year: &Year) -> [Call; 8] {
     let [requirement_7, requirement_9] = year.requirements;
     let [actual_7, actual_9] = year.actuals;
