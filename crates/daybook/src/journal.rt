@@ -1,0 +1,62 @@
+ghost use Rattle.daybook.specs.Journals.{desk_held, desk_place};
+ghost use Rattle.daybook.specs.declared.journal.DeskJournal.TheVariants.{Table, Entries};
+ghost use Rattle.journals.specs.EntryLaws.{entries_lawful};
+ghost use Rattle.std.proofs.Common.{rules};
+
+use entries::JournalKind;
+use journals::{Entry, EntryJournal, Journal, Refusal, TableJournal};
+use std::alloc::{AllocError, Global};
+
+/// The journals that an entry can open a book over.
+#[derive(Drop)]
+pub enum DeskJournal {
+    Table(TableJournal),
+    Entries(EntryJournal),
+}
+
+impl DeskJournal {
+    pub fn new(alloc: Global, kind: JournalKind) -> Result<DeskJournal, AllocError> {
+        Ok(match kind {
+            JournalKind::Table(participants) => {
+                let numbers = vec![in alloc; 0; 12 * usize::from(participants)]?;
+                DeskJournal::Table(TableJournal::new(numbers))
+            }
+            JournalKind::Entries(records) => {
+                let entries = vec![in alloc; Entry::UNUSED; records as usize]?;
+                DeskJournal::Entries(EntryJournal::new(entries))
+            }
+        })
+    }
+}
+
+impl Journal for DeskJournal {
+    ghost held = { desk_held };
+
+    ghost place = { desk_place };
+
+    ghost lawful = { elim [
+      | Table journal ↦ Prim.search rules
+      | Entries journal ↦ entries_lawful journal.entries.items
+    ] };
+
+    fn look(&self, participant: u32, month: u32) -> Option<u64> {
+        match self {
+            DeskJournal::Table(journal) => journal.look(participant, month),
+            DeskJournal::Entries(journal) => journal.look(participant, month),
+        }
+    }
+
+    fn put(&mut self, participant: u32, month: u32, kwh: u64) -> Result<(), Refusal> {
+        match self {
+            DeskJournal::Table(journal) => journal.put(participant, month, kwh),
+            DeskJournal::Entries(journal) => journal.put(participant, month, kwh),
+        }
+    }
+
+    fn wipe(&mut self) {
+        match self {
+            DeskJournal::Table(journal) => journal.wipe(),
+            DeskJournal::Entries(journal) => journal.wipe(),
+        }
+    }
+}

@@ -1,0 +1,85 @@
+use entries::{Line, read_line};
+use std::alloc::{AllocError, Global};
+use std::io;
+use std::io::{BufRead, Take};
+
+/// The most bytes that a line may have without its newline.
+const LONGEST: usize = 65_536;
+
+/// The lines of an input, read one after the other into the same memory.
+#[derive(Drop)]
+pub struct Lines<R> {
+    input: Take<R>,
+    line: Vec<u8>,
+}
+
+/// A line as it stands in the input, without its newline: of one that is too long the first bytes.
+#[derive(Clone, Copy)]
+pub struct RawLine<'a> {
+    bytes: &'a [u8],
+    is_too_long: bool,
+}
+
+impl<R: BufRead> Lines<R> {
+    pub fn new(alloc: Global, input: R) -> Result<Lines<R>, AllocError>
+    where
+        R: Drop,
+    {
+        let line = Vec::with_capacity(alloc, LONGEST + 1)?;
+        Ok(Lines {
+            input: input.take(0),
+            line,
+        })
+    }
+
+    /// The next line, or nothing at the end of the input.
+    pub fn next_line(&mut self) -> io::Result<Option<RawLine<'_>>> {
+        self.line.clear();
+        self.input.set_limit(LONGEST as u64 + 1);
+        if self.input.read_until(b'\n', &mut self.line)? == 0 {
+            return Ok(None);
+        }
+        if self.line.ends_with(b"\n") {
+            self.line.pop();
+        }
+        let is_too_long = self.line.len() > LONGEST;
+        if is_too_long {
+            self.line.truncate(LONGEST);
+            self.skip_to_next_line()?;
+        }
+        Ok(Some(RawLine {
+            bytes: &self.line,
+            is_too_long,
+        }))
+    }
+
+    fn skip_to_next_line(&mut self) -> io::Result<()> {
+        self.input.set_limit(u64::MAX);
+        self.input.skip_until(b'\n')?;
+        Ok(())
+    }
+}
+
+impl<'a> RawLine<'a> {
+    /// The line without the carriage return at its end, if there is one.
+    pub fn shown(self) -> &'a [u8] {
+        if self.is_too_long {
+            return self.bytes;
+        }
+        self.bytes.strip_suffix(b"\r").unwrap_or(self.bytes)
+    }
+
+    /// What the line is.
+    pub fn read(self) -> Line<'a> {
+        if self.bytes.starts_with(b"#") {
+            return Line::Passed;
+        }
+        if self.is_too_long {
+            return Line::Unread;
+        }
+        match str::from_utf8(self.bytes) {
+            Ok(text) => read_line(text),
+            Err(_) => Line::Unread,
+        }
+    }
+}
