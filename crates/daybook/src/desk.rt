@@ -1,32 +1,41 @@
+ghost use Rattle.std.specs.Prelude.{IfOk};
+ghost use Rattle.daybook.specs.Entries.{Performs, called, closing};
+ghost use Rattle.rates.specs.Named.{named_rates};
+ghost use Rattle.settlement.specs.Outcomes.{Gives};
+ghost use Rattle.book.specs.Views.{places, view};
+
 use answers::Answer;
 use book::Book;
-use entries::{Entry, ListEntry};
+use entries::Entry;
 use journals::Journal;
+use rates::NamedList;
 use settlement::Refusal;
 use std::alloc::{AllocError, Global};
 
-/// Closes the year by the list of an entry.
-fn close<J: Journal>(
-    alloc: Global,
-    book: &mut Book<J>,
-    list: &ListEntry<'_>,
-) -> Result<Answer, AllocError> {
-    Ok(match book.close(&list.named(alloc)?) {
-        Ok(()) => Answer::Closed {
-            year: book.standing().year,
-        },
-        Err(refusal) => Answer::Refused(refusal),
+/// Closes the year by a list.
+fn close<J: Journal>(book: &mut Book<J>, list: &NamedList) -> Result<Answer, Refusal>
+    ensures { Gives (closing (view J.held book.old) (named_rates list.now)) result (view J.held book.new) }
+{
+    book.close(list)?;
+    Ok(Answer::Closed {
+        year: book.standing().year,
     })
 }
 
-/// Makes the call of an entry, but for open and close.
-fn call<J: Journal>(book: &mut Book<J>, entry: &Entry<'_>) -> Result<Answer, Refusal> {
-    match entry {
-        Entry::Open { .. } | Entry::Close(_) => Ok(Answer::Unread),
+/// The call of an entry, once there is memory for the list that it names.
+fn call<J: Journal>(
+    alloc: Global,
+    book: &mut Book<J>,
+    entry: &Entry<'_>,
+) -> Result<Result<Answer, Refusal>, AllocError>
+    ensures { IfOk result (λ answer. Gives (called (view J.held book.old) (places J.place book.old) entry.now) answer (view J.held book.new)) }
+{
+    Ok(match entry {
+        Entry::Open { .. } => Ok(Answer::Unread),
         Entry::File {
             project,
             requirement,
-        } => book.file(*project, *requirement).map(|()| Answer::Filed),
+        } => book.file(*project, *requirement).and(Ok(Answer::Filed)),
         Entry::Post { forecast } => book.post(*forecast).map(Answer::Rate),
         Entry::Bill(r) => book.bill(r.participant, r.month, r.kwh).map(Answer::Charge),
         Entry::Resettle(r) => book
@@ -35,20 +44,20 @@ fn call<J: Journal>(book: &mut Book<J>, entry: &Entry<'_>) -> Result<Answer, Ref
         Entry::Pay => book
             .pay()
             .map(|(change, till)| Answer::Paid { change, till }),
-        Entry::State { project, actual } => book.state(*project, *actual).map(|()| Answer::Stated),
+        Entry::State { project, actual } => book.state(*project, *actual).and(Ok(Answer::Stated)),
+        Entry::Close(list) => close(book, &list.named(alloc)?),
         Entry::Look { project } => book.look(*project).map(Answer::Row),
-    }
+    })
 }
 
-/// Performs an entry on the book that is open. An open begins another book, and is not performed
-/// on this one.
+/// Performs an entry on the book that is open. An open begins another book, and changes nothing on
+/// this one.
 pub fn perform<J: Journal>(
     alloc: Global,
     book: &mut Book<J>,
     entry: &Entry<'_>,
-) -> Result<Answer, AllocError> {
-    match entry {
-        Entry::Close(list) => close(alloc, book, list),
-        _ => Ok(call(book, entry).unwrap_or_else(Answer::Refused)),
-    }
+) -> Result<Answer, AllocError>
+    ensures { IfOk result (λ answer. Performs (called (view J.held book.old) (places J.place book.old) entry.now) answer (view J.held book.new)) }
+{
+    Ok(call(alloc, book, entry)?.unwrap_or_else(Answer::Refused))
 }

@@ -1,0 +1,53 @@
+-- What an entry gives on the open book: its answer, and the book after it.
+use Rattle.std.specs.Prelude.{◌≡◌, Ok, Err, Result}
+use Rattle.answers.specs.declared.answer.Answer.{Answer}
+use Rattle.answers.specs.declared.answer.Answer.TheVariants as answer
+use Rattle.entries.specs.Lists.{rates_given}
+use Rattle.entries.specs.declared.entry.Entry.{Entry}
+use Rattle.entries.specs.declared.entry.Entry.TheVariants.{Open, File, Post, Bill, Resettle, Pay, State, Close, Look}
+use Rattle.journals.specs.Calls.{Places}
+use Rattle.rates.specs.Factor.{interest_months}
+use Rattle.rates.specs.Rates.{Rates}
+use Rattle.settlement.specs.declared.refusal.Refusal.{Refusal}
+use Rattle.settlement.specs.Billing.{billed, resettled}
+use Rattle.settlement.specs.Books.{BookView}
+use Rattle.settlement.specs.Closing.{closed}
+use Rattle.settlement.specs.Drafting.{filed, posted}
+use Rattle.settlement.specs.Looking.{looked, stated}
+use Rattle.settlement.specs.Outcomes.{Outcome, done}
+use Rattle.settlement.specs.Paying.{paid}
+use Rattle.settlement.specs.Rules.{pair_of}
+
+abbrev pub said : {A : Type 0} → (A → Answer) → Result A Refusal → Result Answer Refusal
+said say (Ok x) = Ok (say x)
+said say (Err why) = Err why
+
+-- a call, with what an accepted one answers
+abbrev pub saying : {A : Type 0} → (A → Answer) → Outcome A → Outcome Answer
+saying say o = record { answer = said say o.answer; after = o.after }
+
+-- a close answers the year that is then open
+abbrev pub closing : BookView → Rates → Outcome Answer
+closing b rates =
+    let o = closed interest_months b (record { rates = rates }) in
+    saying (λ _. answer.Closed o.after.year) o
+
+-- the call of an entry; an open begins another book
+abbrev pub called : BookView → Places → Entry → Outcome Answer
+called b place (Open year journal) = done answer.Unread b
+called b place (File project requirement) = saying (λ _. answer.Filed) (filed b project requirement)
+called b place (Post forecast) = saying answer.Rate (posted b forecast)
+called b place (Bill r) = saying answer.Charge (billed b (place (pair_of r.participant r.month)) r.participant r.month r.kwh)
+called b place (Resettle r) = saying answer.Change (resettled b r.participant r.month r.kwh)
+called b place Pay = saying (λ p. answer.Paid p.0 p.1) (paid b)
+called b place (State project actual) = saying (λ _. answer.Stated) (stated b project actual)
+called b place (Close list) = closing b (rates_given list)
+called b place (Look project) = saying answer.Row (looked b project)
+
+abbrev pub told : Result Answer Refusal → Answer
+told (Ok answer) = answer
+told (Err why) = answer.Refused why
+
+-- the entry has this answer, and the book is then as its call leaves it
+abbrev pub Performs : Outcome Answer → Answer → BookView → Type 0
+Performs o answer b = (answer ≡ told o.answer) × (b ≡ o.after)
