@@ -52,7 +52,9 @@ impl<W: Write + Drop> Daybook<W> {
         let answer = match line.read() {
             Line::Passed => return Ok(()),
             Line::Unread => Answer::Unread,
-            Line::Entry(entry) => self.answer(&entry)?,
+            Line::Entry(entry) => self
+                .answer(&entry)
+                .context(format_args!("line {number} cannot be answered"))?,
         };
         self.show_answer(number, line.shown(), &answer)
             .context(UNWRITTEN)
