@@ -13,7 +13,8 @@ use Rattle.settlement.specs.Billing.{billed, resettled}
 use Rattle.settlement.specs.Books.{BookView}
 use Rattle.settlement.specs.Closing.{closed}
 use Rattle.settlement.specs.Drafting.{filed, posted}
-use Rattle.settlement.specs.Looking.{looked, stated}
+use Rattle.settlement.specs.Looking.{looked}
+use Rattle.settlement.specs.Stating.{stated}
 use Rattle.settlement.specs.Outcomes.{Outcome, done}
 use Rattle.settlement.specs.Paying.{paid}
 use Rattle.settlement.specs.Rules.{pair_of}

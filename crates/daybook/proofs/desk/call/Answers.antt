@@ -5,7 +5,7 @@ use mir.Val.{SFits}
 use Rattle.answers.specs.declared.answer.Answer.TheVariants as answer
 use Rattle.settlement.specs.Billing.{billed, resettled}
 use Rattle.settlement.specs.Drafting.{filed}
-use Rattle.settlement.specs.Looking.{stated}
+use Rattle.settlement.specs.Stating.{stated}
 use Rattle.settlement.specs.Rules.{pair_of}
 use Rattle.book.specs.Views.{view}
 use Rattle.daybook.proofs.Saying.{says, says_only}
