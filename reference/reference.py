@@ -5,7 +5,6 @@ It shares no code with the crates and reads nothing that they wrote. Stored expe
 from here:
 
     python3 reference/reference.py worksheet         what `worksheet --example` prints
-    python3 reference/reference.py week              what `week` prints, with the law checked after each call
     python3 reference/reference.py pages < FILING     what `pages` prints for a filing
     python3 reference/reference.py cases              a table of filings, each behind its name and length
     python3 reference/reference.py answers < CASES    what `filing_cases` prints for such a table
@@ -24,7 +23,6 @@ from daybook import replay
 from filings import LINES, answers, enter, filing_cases, finish, framed, pages, price, random_cases
 from made import random_daybook, random_runs
 from rules import Refused
-from week import week
 
 
 # --- the worksheet as text ------------------------------------------------------------------
@@ -246,9 +244,6 @@ def main():
     binary = sys.stdout.buffer
     if words == ["worksheet"]:
         for line in example():
-            print(line.rstrip())
-    elif words == ["week"]:
-        for line in week():
             print(line.rstrip())
     elif words == ["pages"]:
         print(pages(sys.stdin.buffer.read()), end="")
