@@ -10,6 +10,7 @@ use Rattle.answers.specs.Numbers.{natural, number}
 use Rattle.answers.specs.declared.answer.Answer.{Answer}
 use Rattle.answers.specs.declared.answer.Answer.TheVariants.{Opened, Filed, Rate, Charge, Change, Paid, Stated, Closed, Row, Refused, Unread, Year}
 
+-- words with a space between each two
 abbrev pub spaced : List (List ℕ) → List ℕ
 spaced words = join_with_byte 32 words
 
@@ -18,9 +19,11 @@ abbrev pub amount : Option ℤ → List ℕ
 amount None = codes "-"
 amount (Some n) = number n
 
+-- what is filed and stated this year
 abbrev pub filed_words : account.Filed → List (List ℕ)
 filed_words f = codes "requirement" ∷ amount f.requirement ∷ codes "actual" ∷ amount f.actual ∷ []
 
+-- a project's row: its number, then each amount after its name
 abbrev pub row_words : RowAnswer → List (List ℕ)
 row_words r =
     natural r.project
@@ -34,13 +37,16 @@ row_words r =
     ∷ number r.kept
     ∷ filed_words (record { requirement = r.requirement; actual = r.actual })
 
+-- a draft, or posted with its usage rate
 abbrev pub state_words : State → List (List ℕ)
 state_words Draft = codes "draft" ∷ []
 state_words (Posted rate) = codes "posted" ∷ number rate ∷ []
 
+-- how a year stands: year, state, money and till
 abbrev pub year_words : ℕ → State → ℤ → ℤ → List (List ℕ)
 year_words year state money till = natural year ∷ (state_words state ++ (codes "money" ∷ number money ∷ codes "till" ∷ number till ∷ []))
 
+-- the same three as text
 abbrev pub filed_text : account.Filed → List ℕ
 filed_text f = spaced (filed_words f)
 
@@ -50,6 +56,7 @@ row_text r = spaced (row_words r)
 abbrev pub year_text : ℕ → State → ℤ → ℤ → List ℕ
 year_text year state money till = spaced (year_words year state money till)
 
+-- the words of each answer; a refusal is told by its number
 abbrev pub answer_words : Answer → List (List ℕ)
 answer_words (Opened year) = codes "opened" ∷ natural year ∷ []
 answer_words Filed = codes "filed" ∷ []

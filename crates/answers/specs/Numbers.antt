@@ -6,5 +6,6 @@ use Rattle.columns.specs.Texts.{text_of}
 abbrev pub number : ℤ → List ℕ
 number n = text_of n
 
+-- the text of a number from zero up
 abbrev pub natural : ℕ → List ℕ
 natural n = number (pos n)

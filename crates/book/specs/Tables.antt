@@ -59,5 +59,6 @@ abbrev pub held_after : Result (Unit {0}) Refusal → Held → Held
 held_after (Ok u) held = nothing_held
 held_after (Err why) held = held
 
+-- the same of a close: an accepted one leaves a journal that holds nothing
 abbrev pub TableCloses : (BookView → Outcome (Unit {0})) → TableView → Result (Unit {0}) Refusal → TableView → Type 0
 TableCloses call before answer after = (held : Held) → Gives (call (book_of held before)) answer (book_of (held_after answer held) after)

@@ -20,5 +20,6 @@ places place b = place b.journal
 abbrev pub Leaves : {J A : Type 0} → (J → J → Type 0) → J → Result A Refusal → J → Type 0
 Leaves leaves before answer after = MatchResult answer (λ _. leaves before after) (λ _. after ≡ before)
 
+-- the participant and the month of a reading
 abbrev pub pair_in : Reading → Pair
 pair_in r = (r.participant, r.month)

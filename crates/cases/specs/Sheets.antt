@@ -10,6 +10,7 @@ use Rattle.sheets.specs.Pricing.{priced}
 use Rattle.sheets.specs.Rules.{Rules}
 use Rattle.sheets.specs.Sheets.{finished}
 
+-- an amount that was entered
 abbrev dollars : ℕ → Option ℤ
 dollars n = Some (pos n)
 
@@ -54,13 +55,16 @@ abbrev three_factors : Result Factors Refusal → Option (Option ℤ × ℤ × �
 three_factors (Ok p) = Some (p.transmission_om, p.expense.total, p.returns.total)
 three_factors (Err why) = None
 
+-- lines 4, 9 and 14 of these figures, finished
 abbrev pub factors_of_sheet : {L : Type 0} → Rules L → Figures → Option (Option ℤ × ℤ × ℤ)
 factors_of_sheet t f = three_factors (finished hundredths t f)
 
+-- the annual revenue requirement of a project that was priced (column 14 of Attachment MM, 10 of CC)
 abbrev column_14 : Result Columns Refusal → Option ℤ
 column_14 (Ok c) = Some c.annual_revenue_requirement
 column_14 (Err why) = None
 
+-- the same on a page 1 that was finished
 abbrev column_14_on : (Project → ℤ) → Project → Result Factors Refusal → Option ℤ
 column_14_on om_base j (Ok p) = column_14 (priced hundredths p om_base j)
 column_14_on om_base j (Err why) = None

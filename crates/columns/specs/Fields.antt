@@ -45,6 +45,7 @@ pub record Writing : Type 0 where
 abbrev pub Gives : Writing → Result (Unit {0}) Refusal → List ℕ → Type 0
 Gives w r columns = (r ≡ w.answer) × (columns ≡ w.after)
 
+-- an accepted writing leaves these columns
 abbrev pub accepted : List ℕ → Writing
 accepted columns = record { answer = Ok tt; after = columns }
 

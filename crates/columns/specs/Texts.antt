@@ -17,6 +17,7 @@ digits_of (suc m) = digits_up_to (suc m) (suc m)
 abbrev pub sign_of : ℤ → List ℕ
 sign_of n = cond (int_lt n (pos 0)) (45 ∷ []) []
 
+-- a number's text: its sign and its digits
 abbrev pub text_of : ℤ → List ℕ
 text_of n = sign_of n ++ digits_of (unsigned_abs n)
 

@@ -19,6 +19,7 @@ use Rattle.settlement.specs.Outcomes.{Outcome, done}
 use Rattle.settlement.specs.Paying.{paid}
 use Rattle.settlement.specs.Rules.{pair_of}
 
+-- an accepted answer, said as one of a daybook; a refusal stays
 abbrev pub said : {A : Type 0} → (A → Answer) → Result A Refusal → Result Answer Refusal
 said say (Ok x) = Ok (say x)
 said say (Err why) = Err why
@@ -45,6 +46,7 @@ called b place (State project actual) = saying (λ _. answer.Stated) (stated b p
 called b place (Close list) = closing b (rates_given list)
 called b place (Look project) = saying answer.Row (looked b project)
 
+-- a refusal is told as an answer too
 abbrev pub told : Result Answer Refusal → Answer
 told (Ok answer) = answer
 told (Err why) = answer.Refused why

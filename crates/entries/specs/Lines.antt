@@ -12,10 +12,12 @@ abbrev pub passed_over : List ℕ → Bool
 passed_over [] = true
 passed_over (b ∷ bs) = b == 35
 
+-- a line that is no entry is unread
 abbrev pub entry_or_unread : Option entry.Entry → Line
 entry_or_unread None = Unread
 entry_or_unread (Some e) = Entry e
 
+-- what is left of a line: passed over, an entry or unread
 abbrev pub text_in : List ℕ → Line
 text_in text = cond (passed_over text) Passed (entry_or_unread (entry_in text))
 

@@ -7,6 +7,7 @@ use Rattle.entries.specs.declared.given_list.GivenList.{GivenList}
 use Rattle.entries.specs.declared.given_list.GivenList.TheVariants.{Flat, Quarter}
 use Rattle.entries.specs.declared.given_list.ListEntry.{ListEntry}
 
+-- the list that is given, and the list that holds its rates where the entry says `holding`
 abbrev pub given_rates : GivenList → Rates
 given_rates (Flat rate) = flat rate
 given_rates (Quarter first rates) = quarterly first rates

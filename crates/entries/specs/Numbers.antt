@@ -11,6 +11,7 @@ use Rattle.entries.specs.Words.{first_word, words_after}
 abbrev pub number : ℤ → List ℕ
 number n = text_of n
 
+-- the text of a number from zero up
 abbrev pub natural : ℕ → List ℕ
 natural n = number (pos n)
 
@@ -18,6 +19,7 @@ natural n = number (pos n)
 abbrev pub FitsI64 : ℤ → Type 0
 FitsI64 n = mag n < 2 ^ 63
 
+-- the same as an answer
 abbrev pub in_range : ℤ → Bool
 in_range n = nat_lt (mag n) (2 ^ 63)
 
@@ -34,11 +36,14 @@ abbrev pub below : ℕ → ℤ → Option ℕ
 below limit (pos n) = cond (nat_lt n limit) (Some n) None
 below limit _ = None
 
+-- a number from 0 to 2^16 - 1
 abbrev pub u16_in : List ℕ → Option ℕ
 u16_in word = option_and_then (below (2 ^ 16)) (number_in word)
 
+-- a number from 0 to 2^32 - 1
 abbrev pub u32_in : List ℕ → Option ℕ
 u32_in word = option_and_then (below (2 ^ 32)) (number_in word)
 
+-- two numbers with a comma between them
 abbrev pub two_numbers_in : List ℕ → Option (ℤ × ℤ)
 two_numbers_in words = option_zip (number_in (first_word words)) (number_in (words_after words))

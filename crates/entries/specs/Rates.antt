@@ -11,8 +11,10 @@ all_of [] = Some []
 all_of (None ∷ others) = None
 all_of (Some n ∷ others) = option_map (λ ns. n ∷ ns) (all_of others)
 
+-- the rates that words spell, or nothing where a word spells none
 abbrev pub rates_in : List ℕ → Option (List ℕ)
 rates_in words = all_of (map u32_in (slice_split is_comma words))
 
+-- the same, and no rate in place of nothing
 abbrev pub rates_of : List ℕ → List ℕ
 rates_of words = unwrap_or (rates_in words) []

@@ -12,6 +12,7 @@ use Rattle.entries.specs.declared.given_list.ListEntry.{ListEntry}
 use Rattle.entries.specs.declared.journal_kind.JournalKind.{JournalKind}
 use Rattle.entries.specs.declared.journal_kind.JournalKind.TheVariants.{Table, Entries}
 
+-- the words of the journal, of a reading and of a rate list
 abbrev pub journal_words : JournalKind → List (List ℕ)
 journal_words (Table participants) = codes "table" ∷ natural participants ∷ []
 journal_words (Entries records) = codes "entries" ∷ natural records ∷ []
@@ -26,6 +27,7 @@ given_list_words (Quarter first rates) = codes "quarter" ∷ natural first ∷ m
 abbrev pub list_words : ListEntry → List (List ℕ)
 list_words l = cond l.holding (codes "holding" ∷ given_list_words l.list) (given_list_words l.list)
 
+-- the words of each entry
 abbrev pub entry_words : Entry → List (List ℕ)
 entry_words (Open year journal) = codes "open" ∷ natural year ∷ journal_words journal
 entry_words (File project requirement) = codes "file" ∷ number project ∷ number requirement ∷ []
@@ -37,9 +39,11 @@ entry_words (State project actual) = codes "state" ∷ number project ∷ number
 entry_words (Close list) = codes "close" ∷ list_words list
 entry_words (Look project) = codes "look" ∷ number project ∷ []
 
+-- the words with a comma between each two
 abbrev pub entry_text : Entry → List ℕ
 entry_text e = joined (entry_words e)
 
+-- the ranges of their numbers
 abbrev pub JournalFits : JournalKind → Type 0
 JournalFits (Table participants) = participants < 2 ^ 16
 JournalFits (Entries records) = records ≤ 1000000

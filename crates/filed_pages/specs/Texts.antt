@@ -18,6 +18,7 @@ page_line row = record {
   annual_revenue_requirement = row.columns.annual_revenue_requirement;
 }
 
+-- the text of what a filing gives
 abbrev pub text_of : Result (List Row) LineRefusal → List ℕ
 text_of (Ok rows) = page_text (map page_line rows)
 text_of (Err refused) = refusal_text refused.line (number_of refused.refusal)

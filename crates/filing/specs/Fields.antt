@@ -41,6 +41,7 @@ figure_on line =
     unless (blank (columns_from 17 56 line)) MalformedField
     (Ok (label, amount))))
 
+-- a project as filed, with its number
 abbrev pub project_with : ℤ → ℤ → ℤ → ℤ → FiledProject
 project_with n gross accumulated expense = record {
   number = n;

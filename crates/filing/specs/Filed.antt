@@ -29,6 +29,7 @@ pub record Filed : Type 0 where
   pub factors : Factors
   pub rows : List Row
 
+-- a filing of these three
 abbrev pub filed_as : Figures → Factors → List Row → Filed
 filed_as f p rows = record { figures = f; factors = p; rows = rows }
 
@@ -37,6 +38,7 @@ pub data Stage : Type 0 where
   entering : Figures → Stage
   pricing : Filed → Stage
 
+-- the figures after an entry, or its refusal
 abbrev pub after_entry : Result (Unit {0}) SheetRefusal → Figures → Result Figures Refusal
 after_entry (Ok done) f = Ok f
 after_entry (Err why) f = Err (Sheet why)
@@ -45,6 +47,7 @@ after_entry (Err why) f = Err (Sheet why)
 abbrev pub figure_entered : {L : Type 0} → Rules L → Figures → List ℕ × ℤ → Result Figures Refusal
 figure_entered t f x = let e = entered_labelled t x.0 x.1 f in after_entry e.answer e.after
 
+-- an F line: its label and amount are read and entered
 abbrev pub figure_taken : {L : Type 0} → Rules L → Figures → List ℕ → Result Figures Refusal
 figure_taken t f line = then (figure_on line) (figure_entered t f)
 
@@ -58,6 +61,7 @@ abbrev pub page_one_at : {L : Type 0} → Rules L → Stage → Result Worked Re
 page_one_at t (entering f) = by_finish (finish_outcome hundredths t f)
 page_one_at t (pricing p) = Ok (record { figures = p.figures; factors = p.factors })
 
+-- the projects priced so far
 abbrev pub rows_at : Stage → List Row
 rows_at (entering f) = []
 rows_at (pricing p) = p.rows
@@ -86,6 +90,7 @@ by_letter t (entering f) letter line =
 by_letter t (pricing p) letter line =
     cond (letter == 80) (project_taken t (pricing p) line) (Err LetterOutOfPlace)
 
+-- a line is whole, and is taken by its letter
 abbrev pub line_taken : {L : Type 0} → Rules L → Stage → List ℕ → Result Stage Refusal
 line_taken t stage line = unless (whole line) NotALine (by_letter t stage (slice_index line 0) (take 56 line))
 

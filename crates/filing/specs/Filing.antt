@@ -23,6 +23,7 @@ pub data Attachment : Type 0 where
 abbrev pub sheet_filed : {L : Type 0} → Rules L → List ℕ → List (List ℕ) → Result Filed LineRefusal
 sheet_filed t line lines = unless (blank (columns_from 5 56 line)) (at_line 1 MalformedField) (from t 2 (entering no_figures) lines)
 
+-- what is filed, with its template
 abbrev pub filing_of : Attachment → Result Filed LineRefusal → Result (Attachment × Filed) LineRefusal
 filing_of a r = seen (λ f. (a, f)) r
 
@@ -50,5 +51,6 @@ abbrev pub view : Filing → Attachment × Filed
 view (Mm f) = (mm, f)
 view (Cc f) = (cc, f)
 
+-- the priced projects
 abbrev pub rows_filed : Attachment × Filed → List Row
 rows_filed f = f.1.rows

@@ -32,6 +32,7 @@ lines_of bytes = cut (line_count bytes) bytes
 abbrev pub short_enough : List ℕ → Bool
 short_enough file = nat_le (length file) 65536
 
+-- this refusal, of the line with this number
 abbrev pub at_line : ℕ → Refusal → LineRefusal
 at_line n why = record { line = n; refusal = why }
 

@@ -17,6 +17,7 @@ going_on t taken reader = then taken (λ next. from t (reader.lines + 1) next (u
 pub record Reaches {L : Type 0} (t : Rules L) (before : FilingReader) (f : Figures) (r : Record) (after : FilingReader) (g : Figures) : Type 0 where
   pub gives_the_same : from t (before.lines + 1) (entering f) (unread before) ≡ going_on t (at r.line (project_taken t (entering g) r.bytes.now)) after
 
+-- the answer is the first P line, reached with the figures of the F lines before it, or the refusal of the lines
 abbrev pub ReadsFigures : {L : Type 0} → Rules L → FilingReader → Figures → Result Record LineRefusal → FilingReader → Figures → Type 0
 ReadsFigures t before f (Ok r) after g = Reaches t before f r after g
 ReadsFigures t before f (Err e) after g = from t (before.lines + 1) (entering f) (unread before) ≡ Err e

@@ -42,6 +42,7 @@ letter_of (p_record j) = 80
 abbrev pub line_of : FilingRecord → List ℕ
 line_of r = letter_of r ∷ (fields_of r ++ (10 ∷ []))
 
+-- a T line's name of a template, right-justified as every field is
 abbrev pub template_on : List ℕ → Result FilingRecord Refusal
 template_on line =
     then (label_in (columns_from 2 4 line)) (λ name.
@@ -56,9 +57,11 @@ record_by letter line =
     (cond (letter == 80) (then (project_on line) (λ j. Ok (p_record j)))
     (Err LetterOutOfPlace)))
 
+-- the record of a line of 56 bytes
 abbrev pub record_on : List ℕ → Result FilingRecord Refusal
 record_on line = record_by (slice_index line 0) line
 
+-- records written as lines, one after the other
 abbrev pub all_written : List FilingRecord → List ℕ
 all_written [] = []
 all_written (r ∷ rs) = line_of r ++ all_written rs

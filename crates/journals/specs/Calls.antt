@@ -4,6 +4,7 @@ use Rattle.journals.specs.Journal.{most, Pair, in_range, Held, holding}
 use Rattle.journals.specs.declared.refusal.Refusal.{Refusal}
 use Rattle.journals.specs.declared.refusal.Refusal.TheVariants.{NoPlace}
 
+-- for each pair, whether it has a place
 abbrev pub Places : Type 0
 Places = Pair → Bool
 
@@ -33,5 +34,6 @@ pub record PutThenLook (before : Held) (pair : Pair) (kwh : ℕ) (answer : Resul
   pub every_other_pair_answers_as_before : (q : Pair) → q ≢ pair → after q ≡ before q
   pub second_put_replaces_the_first : (earlier : Held) (first : ℕ) → Same (holding earlier pair first) before → IsOk answer → Same (holding earlier pair kwh) after
 
+-- no pair holds a number
 abbrev pub NothingHeld : Held → Type 0
 NothingHeld held = (q : Pair) → held q ≡ None

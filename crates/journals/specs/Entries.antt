@@ -7,6 +7,7 @@ use Rattle.journals.specs.Calls.{Places, Same, accepts, PutThenLook}
 use Rattle.journals.specs.declared.entry_journal.Entry.{Entry}
 use Rattle.journals.specs.declared.entry_journal.EntryJournal.{EntryJournal}
 
+-- the pair of an entry
 abbrev pub pair_of : Entry → Pair
 pair_of e = (e.participant, e.month)
 
@@ -17,6 +18,7 @@ used e = in_range (pair_of e) && nat_le e.kwh most
 abbrev pub unused : Entry → Bool
 unused e = not (used e)
 
+-- a used entry of this pair
 abbrev pub is_of : Pair → Entry → Bool
 is_of q e = same_pair q (pair_of e) && used e
 
@@ -24,6 +26,7 @@ is_of q e = same_pair q (pair_of e) && used e
 abbrev pub held_among : List Entry → Held
 held_among entries q = option_map (λ e. e.kwh) (find (is_of q) entries)
 
+-- how many entries are unused
 abbrev pub unused_among : List Entry → ℕ
 unused_among entries = count_by unused entries
 
@@ -48,6 +51,7 @@ pub record PutAt (entries : List Entry) (q : Pair) (kwh spot : ℕ) : Type 0 whe
 abbrev pub SpotFor : List Entry → Pair → ℕ → Option ℕ → Type 0
 SpotFor entries q kwh spot = MatchOption spot (accepts (places_among entries) q kwh ≡ false) (λ i. PutAt entries q kwh i)
 
+-- what the entry journal holds, and its places
 abbrev pub entries_held : EntryJournal → Held
 entries_held j = held_among (vec_items j.entries)
 

@@ -28,12 +28,14 @@ is_held : (o : Option ℕ) → is_some o ≡ true → (kwh : ℕ) × (o ≡ Some
 is_held None some = absurd (grind arith)
 is_held (Some kwh) some = (kwh, refl)
 
+-- a pair with a place is in range
 pub place_in_range : (entries : List Entry) (q : Pair) → places_among entries q ≡ true → in_range q ≡ true
 place_in_range entries q placed = ⊎_elim
     (λ (held : is_some (held_among entries q) ≡ true). let found = is_held (held_among entries q) held in (held_fits entries q found.0 found.1).0)
     (λ (free : (in_range q && nat_lt 0 (unused_among entries)) ≡ true). (and_parts (in_range q) (nat_lt 0 (unused_among entries)) free).0)
     (or_cases (is_some (held_among entries q)) (in_range q && nat_lt 0 (unused_among entries)) placed)
 
+-- the laws that every journal keeps
 pub entries_lawful : (entries : List Entry) → Lawful (held_among entries) (places_among entries)
 entries_lawful entries = record {
   held_pair_has_a_place = λ q kwh held. rw held;

@@ -8,6 +8,7 @@ use Rattle.journals.specs.declared.table_journal.TableJournal.{TableJournal}
 abbrev pub places_in : ℕ → Places
 places_in len q = in_range q && nat_le q.0 (len / 12)
 
+-- where the number of a participant and a month stands: twelve for each participant, January first
 abbrev pub index_of : Pair → ℕ
 index_of q = 12 * (q.0 - 1) + (q.1 - 1)
 
@@ -19,9 +20,11 @@ spot_in len q = cond (places_in len q) (Some (index_of q)) None
 abbrev pub counted : ℕ → Option ℕ
 counted kwh = cond (nat_le kwh most) (Some kwh) None
 
+-- what the run holds for a pair that has a place
 abbrev pub held_in : List ℕ → Held
 held_in numbers q = cond (places_in (length numbers) q) (counted (slice_index numbers (index_of q))) None
 
+-- what the table journal holds, and its places
 abbrev pub table_held : TableJournal → Held
 table_held t = held_in (vec_items t.numbers)
 

@@ -18,9 +18,11 @@ line_fields l =
     ∷ in_columns 14 l.annual_revenue_requirement
     ∷ []
 
+-- the fields of a line, and a newline
 unfoldable pub line_text : PageLine → List ℕ
 line_text l = fields_text (line_fields l) ++ newline
 
+-- the sum of an amount over the rows
 abbrev pub sum_of : (PageLine → ℤ) → List PageLine → ℤ
 sum_of column rows = fold (λ sum row. sum +ℤ column row) (pos 0) rows
 
@@ -38,6 +40,7 @@ sums_of rows = record {
 abbrev pub page_lines : List PageLine → List PageLine
 page_lines rows = rows ++ (sums_of rows ∷ [])
 
+-- the text of the pages: all the lines
 unfoldable pub page_text : List PageLine → List ℕ
 page_text rows = flat_map line_text (page_lines rows)
 

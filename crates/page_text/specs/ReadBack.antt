@@ -28,6 +28,7 @@ columns_before return_charge = 26
 columns_before depreciation = 40
 columns_before requirement = 54
 
+-- what the project number and an amount of line k read as: a line is 69 bytes
 abbrev pub project_read : List ℕ → ℕ → Result ℤ Refusal
 project_read text k = reading (take 12 (drop (69 * k) text))
 
@@ -43,6 +44,7 @@ pub record LineReadsAs (text : List ℕ) (k : ℕ) (l : PageLine) : Type 0 where
 abbrev pub WideEnough : PageField → Type 0
 WideEnough f = width_of f.number ≤ f.columns
 
+-- the sum of some amounts
 abbrev pub total : List ℤ → ℤ
 total amounts = fold ◌+ℤ◌ (pos 0) amounts
 

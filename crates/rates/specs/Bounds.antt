@@ -15,6 +15,7 @@ latest_within rates bounded zero (suc n) = tt
 latest_within rates bounded (suc month) (suc n) =
     option_or_within (rates month) (latest_before rates month n) (bounded month) (latest_within rates bounded month n)
 
+-- a list that holds the rates of another has none above the highest, if the other has none
 pub held_bounded : (rates : Rates) → Bounded rates → Bounded (held rates)
 held_bounded rates bounded month =
     option_or_within (rates month) (latest_before rates month 24) (bounded month) (latest_within rates bounded month 24)

@@ -2,6 +2,7 @@
 use Rattle.std.specs.Prelude.{◌≡◌, ℕ, zero, suc, ◌+◌, ◌*◌, ◌<◌, List, [], ◌∷◌, length, Some, None, Option, slice_index}
 use Rattle.rates.specs.Rates.{Rates, Within, highest, january}
 
+-- a sum, where both are there
 abbrev pub plus : Option ℕ → Option ℕ → Option ℕ
 plus None b = None
 plus (Some x) None = None
@@ -12,12 +13,15 @@ unfoldable pub sum_of : Rates → ℕ → ℕ → Option ℕ
 sum_of rates first zero = Some 0
 sum_of rates first (suc n) = plus (sum_of rates first n) (rates (first + n))
 
+-- the months of a factor: two years
 abbrev pub interest_months : ℕ
 interest_months = 24
 
+-- the factor of a year: the sum of 24 rates from its January on
 abbrev pub factor_of : Rates → ℕ → Option ℕ
 factor_of rates year = sum_of rates (january year) interest_months
 
+-- the sum of some numbers
 abbrev pub total : List ℕ → ℕ
 total [] = 0
 total (x ∷ xs) = x + total xs

@@ -9,6 +9,7 @@ latest_before rates month zero = None
 latest_before rates zero (suc n) = None
 latest_before rates (suc month) (suc n) = option_or (rates month) (latest_before rates month n)
 
+-- the month's own rate, or else the latest of the 24 months before it
 abbrev pub held : Rates → Rates
 held rates month = option_or (rates month) (latest_before rates month 24)
 
@@ -16,6 +17,7 @@ held rates month = option_or (rates month) (latest_before rates month 24)
 abbrev pub UpTo : ℕ → ℕ → Type 0
 UpTo month earlier = (earlier ≤ month) × (month ≤ earlier + 24)
 
+-- no month after the one up to the other has a rate
 abbrev pub NothingAfter : Rates → ℕ → ℕ → Type 0
 NothingAfter rates last month = (later : ℕ) → last < later → later ≤ month → rates later ≡ None
 

@@ -2,9 +2,11 @@
 -- Rates count ten-millionths for one month.
 use Rattle.std.specs.Prelude.{ℕ, ◌+◌, ◌*◌, ◌≤◌, cond, IsSome, IfSome, Some, None, Option, nat_le}
 
+-- for each month its rate, or nothing
 abbrev pub Rates : Type 0
 Rates = ℕ → Option ℕ
 
+-- the first and the last month of a year
 abbrev pub january : ℕ → ℕ
 january year = 12 * year
 
@@ -15,6 +17,7 @@ december year = 12 * year + 11
 abbrev pub Has : Rates → ℕ → Type 0
 Has rates month = IsSome (rates month)
 
+-- one percent a month
 abbrev pub highest : ℕ
 highest = 100000
 

@@ -23,6 +23,7 @@ charge_at b kwh = charge charge_scale kwh (rate_of b.state)
 abbrev pub entered_book : BookView → Pair → ℕ → ℤ → BookView
 entered_book b pair kwh change = with_money (b.money +ℤ change) (with_held (holding b.held pair kwh) b)
 
+-- what a bill asks, in this order
 abbrev pub bill_questions : BookView → Bool → ℤ → ℤ → ℤ → List Question
 bill_questions b place participant month kwh =
     ask (reading_in_range participant month kwh) ReadingOutOfRange  -- 8
@@ -42,6 +43,7 @@ billed b place participant month kwh =
 abbrev pub change_to : BookView → Pair → ℕ → ℤ
 change_to b pair kwh = charge_at b kwh -ℤ charge_at b (unwrap_or (b.held pair) 0)
 
+-- what a resettlement asks, in this order: 11 is asked last
 abbrev pub resettle_questions : BookView → ℤ → ℤ → ℤ → List Question
 resettle_questions b participant month kwh =
     ask (reading_in_range participant month kwh) ReadingOutOfRange  -- 8

@@ -7,6 +7,7 @@ use Rattle.settlement.specs.declared.state.State.{State}
 use Rattle.settlement.specs.declared.state.State.TheVariants.{Draft, Posted}
 use Rattle.settlement.specs.Rules.{nothing_due, column_16, sum_over}
 
+-- a row not filed and not stated this year
 abbrev pub nothing_filed : Filed
 nothing_filed = record { requirement = None; actual = None }
 
@@ -27,6 +28,7 @@ pub record RowView : Type 0 where
 abbrev pub new_row : ℕ → RowView
 new_row project = record { project = project; account = nothing_due; filed = nothing_filed; paid = pos 0 }
 
+-- a row with one of its parts replaced
 abbrev pub with_account : Account → RowView → RowView
 with_account account r = record { project = r.project; account = account; filed = r.filed; paid = r.paid }
 
@@ -36,6 +38,7 @@ with_filed change r = record { project = r.project; account = r.account; filed =
 abbrev pub with_paid : ℤ → RowView → RowView
 with_paid paid r = record { project = r.project; account = r.account; filed = r.filed; paid = paid }
 
+-- column 16 of a row, the sum of the columns 16, and the sum of what is paid
 abbrev pub column_of : RowView → ℤ
 column_of r = column_16 r.filed.requirement r.account
 
@@ -45,6 +48,7 @@ total_of rows = sum_over column_of rows
 abbrev pub sum_of_paid : List RowView → ℤ
 sum_of_paid rows = sum_over (λ r. r.paid) rows
 
+-- whether the project has a row
 abbrev pub has_row : ℕ → List RowView → Bool
 has_row project [] = false
 has_row project (r ∷ rs) = r.project == project || has_row project rs
@@ -71,6 +75,7 @@ abbrev pub is_posted : State → Bool
 is_posted Draft = false
 is_posted (Posted rate) = true
 
+-- the usage rate of a posted year; a draft has none
 abbrev pub rate_of : State → ℤ
 rate_of Draft = pos 0
 rate_of (Posted rate) = rate
@@ -87,9 +92,11 @@ pub record BookView : Type 0 where
 abbrev pub till : BookView → ℤ
 till b = b.money -ℤ sum_of_paid b.rows
 
+-- no pair holds a number
 abbrev pub nothing_held : Held
 nothing_held pair = None
 
+-- a book with one of its parts replaced
 abbrev pub with_state : State → BookView → BookView
 with_state state b = record { year = b.year; state = state; money = b.money; rows = b.rows; held = b.held }
 

@@ -3,6 +3,7 @@ use Rattle.std.specs.Prelude.{Bool, ℤ, is_ok, Some, None, Ok, Err, Option, Res
 use Rattle.settlement.specs.declared.refusal.Refusal.{Refusal}
 use Rattle.settlement.specs.Lists.{Lists}
 
+-- what a call answers, or its refusal
 abbrev pub Answer : Type 0 → Type 0
 Answer A = Result A Refusal
 
@@ -26,10 +27,12 @@ pub data Fed : Type 0 where
   fed_state : ℤ → ℤ → Bool → Fed
   fed_close : Lists → Bool → Fed
 
+-- the answer of an accepted call
 abbrev pub accepted : {A : Type 0} → Answer A → Option A
 accepted (Ok x) = Some x
 accepted (Err why) = None
 
+-- what the tally is told of a call
 abbrev pub fed : Call → Fed
 fed (file project requirement answer) = fed_file project requirement (is_ok answer)
 fed (post forecast answer) = fed_post forecast (accepted answer)

@@ -11,21 +11,27 @@ use Rattle.settlement.specs.Books.{BookView, RowView, is_posted, nothing_filed, 
 use Rattle.settlement.specs.Outcomes.{Outcome, Question, ask, asked, done, within}
 use Rattle.settlement.specs.Paying.{share_of}
 
+-- a row's figures: an actual that is not stated counts as 0, but 16 has asked for it
 abbrev pub figures_of : Terms → RowView → Figures
 figures_of terms r = figures terms (unwrap_or r.filed.actual (pos 0)) r.account r.paid
 
+-- the row has an actual
 abbrev pub is_stated : RowView → Bool
 is_stated r = is_some r.filed.actual
 
+-- the row was paid its share of the money, to the cent
 abbrev pub has_its_share : ℤ → ℤ → RowView → Bool
 has_its_share money total r = int_eq r.paid (share_of money total r)
 
+-- a true-up in dollars: within 100,000,000 either way
 abbrev pub is_true_up : ℤ → Bool
 is_true_up dollars = within (neg_ℤ (pos 100000000)) (pos 100000000) dollars
 
+-- the year after it is the last that there is
 abbrev pub last_closing_year : ℕ
 last_closing_year = 65534
 
+-- what a close asks, in this order
 abbrev pub close_questions : ℕ → BookView → Lists → List Question
 close_questions months b lists =
     ask (is_posted b.state) NotPosted  -- 9
@@ -36,6 +42,7 @@ close_questions months b lists =
     ∷ ask (list_all (λ r. is_true_up (figures_of (terms_at months lists b.year) r).true_up) b.rows) TrueUpOutOfRange  -- 20
     ∷ []
 
+-- the row in the next year: its account settled, nothing filed, nothing paid
 abbrev pub closed_row : (RowView → Figures) → RowView → RowView
 closed_row work r = with_account (settled (work r) r.account) (with_filed (λ f. nothing_filed) (with_paid (pos 0) r))
 

@@ -28,5 +28,6 @@ abbrev pub tally_of : ℕ → List Fed → Tally
 tally_of year [] = nothing_noted year
 tally_of year (c ∷ cs) = count c (tally_of year cs)
 
+-- the tally of a run of calls on a book opened in this year
 abbrev pub tally : ℕ → List Call → Tally
 tally year calls = tally_of year (map fed calls)

@@ -23,6 +23,7 @@ has_room project rows = has_row project rows || nat_lt (length rows) most_rows
 abbrev pub may_file : ℤ → Account → Bool
 may_file requirement account = in_dollars requirement && in_dollars (column_16 (Some requirement) account)
 
+-- what filing asks, in this order
 abbrev pub file_questions : BookView → ℤ → ℤ → List Question
 file_questions b project requirement =
     ask (is_project project) ProjectNumberOutOfRange  -- 1
@@ -31,6 +32,7 @@ file_questions b project requirement =
     ∷ ask (may_file requirement (row_on (unsigned project) b.rows).account) RequirementOutOfRange  -- 4
     ∷ []
 
+-- the project's row, a new one if it had none, with the requirement
 abbrev pub filed_book : BookView → ℕ → ℤ → BookView
 filed_book b project requirement = with_rows (on_row project (with_filed (with_requirement requirement)) (with_row_for project b.rows)) b
 
@@ -46,12 +48,15 @@ all_filed rows = nat_le 1 (length rows) && list_all (λ r. is_some r.filed.requi
 abbrev pub is_forecast : ℤ → Bool
 is_forecast forecast = within (pos 1) (pos 1000000000) forecast
 
+-- a usage rate in ten-thousandths of a dollar for a megawatt-hour: at most 100 dollars
 abbrev pub is_usage_rate : ℤ → Bool
 is_usage_rate rate = within (pos 1) (pos 1000000) rate
 
+-- the usage rate for a forecast: the total of the columns 16 over it
 abbrev pub rate_for : BookView → ℤ → ℤ
 rate_for b forecast = usage_rate rate_scale (total_of b.rows) (unsigned forecast)
 
+-- what posting asks, in this order
 abbrev pub post_questions : BookView → ℤ → List Question
 post_questions b forecast =
     ask (is_draft b.state) NotDraft  -- 2

@@ -8,6 +8,7 @@ use Rattle.settlement.specs.Rules.{unsigned}
 use Rattle.settlement.specs.Books.{BookView, RowView, has_row, row_on, till}
 use Rattle.settlement.specs.Outcomes.{Outcome, Question, ask, asked, done, is_project}
 
+-- all that a row has
 abbrev pub answer_of : RowView → RowAnswer
 answer_of r = record {
   project = r.project;
@@ -27,6 +28,7 @@ standing_of b = record { year = b.year; state = b.state; money = b.money; till =
 abbrev pub row_at : BookView → ℕ → Option RowAnswer
 row_at b position = option_map answer_of (slice_get b.rows position)
 
+-- what looking asks, in this order
 abbrev pub look_questions : BookView → ℤ → List Question
 look_questions b project =
     ask (is_project project) ProjectNumberOutOfRange  -- 1

@@ -11,6 +11,7 @@ pub record Outcome (A : Type 0) : Type 0 where
 abbrev pub Gives : {A : Type 0} → Outcome A → Result A Refusal → BookView → Type 0
 Gives o answer b = (answer ≡ o.answer) × (b ≡ o.after)
 
+-- an accepted call
 abbrev pub done : {A : Type 0} → A → BookView → Outcome A
 done x b = record { answer = Ok x; after = b }
 
@@ -35,6 +36,7 @@ asked b (q ∷ qs) o = cond q.holds (asked b qs o) (refused q.otherwise b)
 abbrev pub within : ℤ → ℤ → ℤ → Bool
 within low high x = int_le low x && int_le x high
 
+-- a project number
 abbrev pub is_project : ℤ → Bool
 is_project number = within (pos 1) (pos 99999999) number
 

@@ -12,6 +12,7 @@ unsigned (negsuc n) = 0
 abbrev pub pair_of : ℤ → ℤ → ℕ × ℕ
 pair_of participant month = (unsigned participant, unsigned month)
 
+-- the sum of an amount over a list
 abbrev pub sum_over : {X : Type 0} → (X → ℤ) → List X → ℤ
 sum_over amount [] = pos 0
 sum_over amount (x ∷ xs) = amount x +ℤ sum_over amount xs
@@ -20,6 +21,7 @@ sum_over amount (x ∷ xs) = amount x +ℤ sum_over amount xs
 abbrev pub cents : ℤ → ℤ
 cents dollars = pos 100 *ℤ dollars
 
+-- the account of a project that files for the first time
 abbrev pub nothing_due : Account
 nothing_due = record { due_now = pos 0; due_next = pos 0; kept = pos 0 }
 
@@ -52,6 +54,7 @@ difference actual carried paid = cents (actual +ℤ carried) -ℤ paid
 abbrev pub Terms : Type 0
 Terms = ℤ → ℕ
 
+-- interest on what is owed, in cents, rounded: what is below zero bears interest too
 abbrev pub interest : ℕ → Terms → ℤ → ℤ
 interest scale terms owed = rounded (owed *ℤ pos (terms owed)) scale
 
@@ -80,6 +83,7 @@ pub record Figures : Type 0 where
   pub true_up : ℤ
   pub kept : ℤ
 
+-- the four figures of what is owed and the cents kept so far: interest first, then all three in whole dollars
 abbrev pub figures_on : Terms → ℤ → ℤ → Figures
 figures_on terms owed kept =
     let borne = interest interest_scale terms owed in

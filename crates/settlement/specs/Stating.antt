@@ -5,6 +5,7 @@ use Rattle.settlement.specs.Rules.{unsigned}
 use Rattle.settlement.specs.Books.{BookView, has_row, is_posted, on_row, with_actual, with_filed, with_rows}
 use Rattle.settlement.specs.Outcomes.{Outcome, Question, ask, asked, done, in_dollars, is_project}
 
+-- what stating asks, in this order
 abbrev pub state_questions : BookView → ℤ → ℤ → List Question
 state_questions b project actual =
     ask (is_project project) ProjectNumberOutOfRange  -- 1
@@ -13,6 +14,7 @@ state_questions b project actual =
     ∷ ask (in_dollars actual) ActualOutOfRange  -- 15
     ∷ []
 
+-- the project's row with the actual
 abbrev pub stated_book : BookView → ℕ → ℤ → BookView
 stated_book b project actual = with_rows (on_row project (with_filed (with_actual actual)) b.rows) b
 

@@ -19,6 +19,7 @@ abbrev pub with_reading : ℕ → Pair → ℕ → List Reading → List Reading
 with_reading year pair kwh [] = record { year = year; pair = pair; kwh = kwh } ∷ []
 with_reading year pair kwh (r ∷ rs) = cond (is_for year pair r) (record { year = year; pair = pair; kwh = kwh } ∷ rs) (r ∷ with_reading year pair kwh rs)
 
+-- the kilowatt-hours noted there, if any
 abbrev pub reading_at : ℕ → Pair → List Reading → Option ℕ
 reading_at year pair [] = None
 reading_at year pair (r ∷ rs) = cond (is_for year pair r) (Some r.kwh) (reading_at year pair rs)
@@ -48,6 +49,7 @@ pub record Past : Type 0 where
   pub receipts : ℕ → ℤ
   pub interest : ℕ → ℤ
 
+-- all that is noted: the year, the projects in the order of first filing, and the sum of the first answers of pay as payments
 pub record Tally : Type 0 where
   pub year : ℕ
   pub projects : List ℕ
@@ -56,6 +58,7 @@ pub record Tally : Type 0 where
   pub payments : ℤ
   pub past : Past
 
+-- the tally of a book just opened
 abbrev pub nothing_noted : ℕ → Tally
 nothing_noted year = record {
   year = year;
@@ -70,6 +73,7 @@ nothing_noted year = record {
 abbrev pub charge_on : (ℕ → ℤ) → Reading → ℤ
 charge_on rates r = charge charge_scale r.kwh (rates r.year)
 
+-- all charges of all years, on what is noted now
 abbrev pub charges : Tally → ℤ
 charges t = sum_over (charge_on t.metered.rates) t.metered.readings
 
@@ -77,6 +81,7 @@ charges t = sum_over (charge_on t.metered.rates) t.metered.readings
 abbrev pub money_left : Tally → ℤ
 money_left t = charges t -ℤ sum_over t.past.receipts t.projects
 
+-- column 16 of a project in this year, the total of all, and the project's share of the money left
 abbrev pub column : Tally → ℕ → ℤ
 column t project = column_16 (t.filings.requirements t.year project) (t.past.accounts project)
 
@@ -86,6 +91,7 @@ total t = sum_over (column t) t.projects
 abbrev pub tally_share : Tally → ℕ → ℤ
 tally_share t project = share (money_left t) (total t) (column t project)
 
+-- the actual noted for a year, 0 where none is
 abbrev pub actual_in : Tally → ℕ → ℕ → ℤ
 actual_in t project year = unwrap_or (t.filings.actuals year project) (pos 0)
 
@@ -101,6 +107,7 @@ abbrev pub is_in : ℕ → List ℕ → Bool
 is_in project [] = false
 is_in project (p ∷ ps) = p == project || is_in project ps
 
+-- the project after the others, if it is new
 abbrev pub with_project : ℕ → List ℕ → List ℕ
 with_project project projects = cond (is_in project projects) projects (projects ++ project ∷ [])
 
@@ -121,12 +128,15 @@ note_rate rate t = with_metered (record { readings = t.metered.readings; rates =
 abbrev pub with_filings : List ℕ → Filings → Tally → Tally
 with_filings projects filings t = record { year = t.year; projects = projects; metered = t.metered; filings = filings; payments = t.payments; past = t.past }
 
+-- a requirement noted; a project that files for the first time joins the others
 abbrev pub note_requirement : ℕ → ℤ → Tally → Tally
 note_requirement project requirement t = with_filings (with_project project t.projects) (record { requirements = with_note t.year project requirement t.filings.requirements; actuals = t.filings.actuals }) t
 
+-- an actual noted
 abbrev pub note_actual : ℕ → ℤ → Tally → Tally
 note_actual project actual t = with_filings t.projects (record { requirements = t.filings.requirements; actuals = with_note t.year project actual t.filings.actuals }) t
 
+-- one more payment
 abbrev pub note_payment : ℤ → Tally → Tally
 note_payment amount t = record { year = t.year; projects = t.projects; metered = t.metered; filings = t.filings; payments = t.payments +ℤ amount; past = t.past }
 
@@ -139,5 +149,6 @@ closed_past t terms = record {
   interest = λ p. t.past.interest p +ℤ (tally_figures t terms p).interest;
 }
 
+-- a close: the year grows by one
 abbrev pub next_year : Terms → Tally → Tally
 next_year terms t = record { year = t.year + 1; projects = t.projects; metered = t.metered; filings = t.filings; payments = t.payments; past = closed_past t terms }

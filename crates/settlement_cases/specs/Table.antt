@@ -23,6 +23,7 @@ two_columns rate money paid_1 paid_2 kwh =
 abbrev pub refund_due : BookView
 refund_due = book 2028 Draft (pos 0) (row 7 (neg_ℤ (pos 27825)) (pos 0) (pos 0) None None (pos 0) ∷ []) nothing_held
 
+-- the same, with this requirement filed
 abbrev pub refund_filed : ℤ → BookView
 refund_filed requirement = book 2028 Draft (pos 0) (row 7 (neg_ℤ (pos 27825)) (pos 0) (pos 0) (Some requirement) None (pos 0) ∷ []) nothing_held
 

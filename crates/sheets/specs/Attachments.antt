@@ -48,12 +48,14 @@ mm_adjusted_om f = amount_of figure.TransmissionOm f -ℤ mm_deductions f
 abbrev pub mm_other_om : Figures → ℤ
 mm_other_om f = amount_of figure.TotalOm f -ℤ mm_adjusted_om f
 
+-- line 4 divides line 3d by line 1a
 abbrev pub mm_transmission_om : Figures → TransmissionOm
 mm_transmission_om f = record {
   adjusted_om = mm_adjusted_om f;
   accumulated_depreciation = amount_of figure.AccumulatedDepreciation f;
 }
 
+-- what each factor of Attachment MM divides, and by what
 abbrev pub mm_elements : Figures → Elements
 mm_elements f = record {
   transmission_om = Some (mm_transmission_om f);
@@ -61,6 +63,7 @@ mm_elements f = record {
   returns = return_elements (mm_net_plant f) f;
 }
 
+-- what is printed as the number of each line that takes a figure
 abbrev mm_label : MmLine → List ℕ
 mm_label mm.GrossPlant = codes "1"
 mm_label mm.AccumulatedDepreciation = codes "1a"
@@ -73,6 +76,7 @@ mm_label mm.OtherTaxes = codes "7"
 mm_label mm.IncomeTaxes = codes "10"
 mm_label mm.ReturnOnRateBase = codes "12"
 
+-- the figure on each line
 abbrev mm_figure : MmLine → Figure
 mm_figure mm.GrossPlant = figure.GrossPlant
 mm_figure mm.AccumulatedDepreciation = figure.AccumulatedDepreciation
@@ -85,6 +89,7 @@ mm_figure mm.OtherTaxes = figure.OtherTaxes
 mm_figure mm.IncomeTaxes = figure.IncomeTaxes
 mm_figure mm.ReturnOnRateBase = figure.ReturnOnRateBase
 
+-- all that is particular to Attachment MM; question 25 is asked here only, and line 4 multiplies accumulated depreciation
 abbrev pub mm_rules : Rules MmLine
 mm_rules = record {
   lines = mm.GrossPlant ∷ mm.AccumulatedDepreciation ∷ mm.TotalOm ∷ mm.TransmissionOm ∷ mm.LseExpenses ∷ mm.Account565 ∷ mm.GeneralDepreciation ∷ mm.OtherTaxes ∷ mm.IncomeTaxes ∷ mm.ReturnOnRateBase ∷ [];
@@ -103,6 +108,7 @@ cc_elements f = record {
   returns = return_elements (amount_of figure.NetPlant f) f;
 }
 
+-- what is printed as the number of each line that takes a figure
 abbrev cc_label : CcLine → List ℕ
 cc_label cc.GrossPlant = codes "1"
 cc_label cc.NetPlant = codes "2"
@@ -112,6 +118,7 @@ cc_label cc.OtherTaxes = codes "7"
 cc_label cc.IncomeTaxes = codes "10"
 cc_label cc.ReturnOnRateBase = codes "12"
 
+-- the figure on each line
 abbrev cc_figure : CcLine → Figure
 cc_figure cc.GrossPlant = figure.GrossPlant
 cc_figure cc.NetPlant = figure.NetPlant
@@ -121,6 +128,7 @@ cc_figure cc.OtherTaxes = figure.OtherTaxes
 cc_figure cc.IncomeTaxes = figure.IncomeTaxes
 cc_figure cc.ReturnOnRateBase = figure.ReturnOnRateBase
 
+-- all that is particular to Attachment CC: question 25 is always answered yes, and there is no line 4
 abbrev pub cc_rules : Rules CcLine
 cc_rules = record {
   lines = cc.GrossPlant ∷ cc.NetPlant ∷ cc.TotalOm ∷ cc.GeneralDepreciation ∷ cc.OtherTaxes ∷ cc.IncomeTaxes ∷ cc.ReturnOnRateBase ∷ [];

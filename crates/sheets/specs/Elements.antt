@@ -17,6 +17,7 @@ total_return e = e.income_taxes +ℤ e.return_on_rate_base
 abbrev pub Small : ℤ → Type 0
 Small x = unsigned_abs x ≤ 100000000000
 
+-- each amount and each base is small
 pub record SmallOm (e : TransmissionOm) : Type 0 where
   pub adjusted : Small e.adjusted_om
   pub base : Small e.accumulated_depreciation

@@ -22,9 +22,11 @@ hundredths = 10000
 abbrev pub factor : ℕ → ℤ → ℤ → ℤ
 factor scale amount base = rounded (amount *ℤ pos scale) (unsigned_abs base)
 
+-- line 4
 abbrev pub om_factor : ℕ → TransmissionOm → ℤ
 om_factor scale e = factor scale e.adjusted_om e.accumulated_depreciation
 
+-- lines 4b (4 in Attachment CC), 6, 8 and 9; line 9 is rounded once from the exact sum
 abbrev pub expense_factors : ℕ → ExpenseElements → ExpenseFactors
 expense_factors scale e = record {
   other_om = factor scale e.other_om e.gross_plant;
@@ -33,6 +35,7 @@ expense_factors scale e = record {
   total = factor scale (total_expense e) e.gross_plant;
 }
 
+-- lines 11, 13 and 14; line 14 is rounded once from the exact sum
 abbrev pub return_factors : ℕ → ReturnElements → ReturnFactors
 return_factors scale e = record {
   income_taxes = factor scale e.income_taxes e.net_plant;
@@ -40,6 +43,7 @@ return_factors scale e = record {
   total = factor scale (total_return e) e.net_plant;
 }
 
+-- all factors of page 1
 abbrev pub factors_of : ℕ → Elements → Factors
 factors_of scale e = record {
   transmission_om = option_map (om_factor scale) e.transmission_om;
@@ -54,6 +58,7 @@ abbrev pub om_base_above_zero : Option TransmissionOm → Bool
 om_base_above_zero (Some e) = above_zero e.accumulated_depreciation
 om_base_above_zero None = true
 
+-- every base that is divided by is above 0: question 24
 abbrev pub bases_above_zero : Elements → Bool
 bases_above_zero e = om_base_above_zero e.transmission_om && (above_zero e.expense.gross_plant && above_zero e.returns.net_plant)
 

@@ -87,6 +87,7 @@ lowest OtherTaxes = pos 0
 lowest IncomeTaxes = negsuc 9999999999
 lowest ReturnOnRateBase = pos 0
 
+-- question 22: from the lowest to 10,000,000,000
 abbrev pub amount_fits : Figure → ℤ → Bool
 amount_fits k x = within (lowest k) (pos 10000000000) x
 

@@ -17,9 +17,11 @@ abbrev pub om_charge : ℕ → Option ℤ → ℤ → ℤ
 om_charge scale (Some factor) base = charge scale base factor
 om_charge scale None base = pos 0
 
+-- gross plant less accumulated depreciation
 abbrev pub net_plant_of : Project → ℤ
 net_plant_of j = j.gross_plant -ℤ j.accumulated_depreciation
 
+-- the columns: both expenses, their sum, the return charge, the depreciation expense and the requirement
 abbrev pub columns_of : ℕ → Factors → (Project → ℤ) → Project → Columns
 columns_of scale p om_base j =
     let om = om_charge scale p.transmission_om (om_base j) in

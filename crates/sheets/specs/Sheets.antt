@@ -34,6 +34,7 @@ abbrev pub entered_at : {L : Type 0} → (L → Figure) → Option L → ℤ →
 entered_at figure_of (Some l) x f = entered (figure_of l) x f
 entered_at figure_of None x f = refused UnknownLine f
 
+-- an amount for the line with this label: questions 21 and 22
 abbrev pub entered_labelled : {L : Type 0} → Rules L → List ℕ → ℤ → Figures → Entry
 entered_labelled t label x f = entered_at t.figure_of (line_labelled t.label_of t.lines label) x f
 
@@ -53,9 +54,11 @@ finished scale t f = asked (ask (complete t f) LineMissing ∷ []) (worked scale
 abbrev pub Finish : Type 0
 Finish = Result Worked (Refusal × Figures)
 
+-- the figures with their factors, or the refusal with the figures
 abbrev pub with_sheet : Figures → Result Factors Refusal → Finish
 with_sheet f (Ok p) = Ok (record { figures = f; factors = p })
 with_sheet f (Err why) = Err (why, f)
 
+-- finishing, with what becomes of the figures
 abbrev pub finish_outcome : {L : Type 0} → ℕ → Rules L → Figures → Finish
 finish_outcome scale t f = with_sheet f (finished scale t f)

@@ -23,6 +23,7 @@ single base amount = record { over = amount; under = unsigned_abs base }
 abbrev plus : Quotient → Quotient → Quotient
 plus p q = record { over = p.over *ℤ pos q.under +ℤ q.over *ℤ pos p.under; under = p.under * q.under }
 
+-- the sum of quotients, over the product of what they divide by
 abbrev pub exact_sum : List Quotient → Quotient
 exact_sum [] = record { over = pos 0; under = 1 }
 exact_sum (q ∷ qs) = plus q (exact_sum qs)
@@ -51,6 +52,7 @@ pub record ReturnFollows (scale : ℕ) (e : ReturnElements) (p : ReturnFactors) 
   pub return_on_rate_base_is_nearest_to_its_quotient : NearestParts scale (single e.net_plant e.return_on_rate_base) p.return_on_rate_base
   pub line_14_is_nearest_to_the_exact_sum : NearestParts scale (exact_sum (map (single e.net_plant) (e.income_taxes ∷ e.return_on_rate_base ∷ []))) p.total
 
+-- every factor of page 1 is nearest to the quotient that the tariff prints for its line
 pub record PageOneFollows (scale : ℕ) (e : Elements) (p : Factors) : Type 0 where
   pub line_4_is_nearest_to_its_quotient : OmFollows scale e.transmission_om p.transmission_om
   pub expense : ExpenseFollows scale e.expense p.expense
@@ -65,6 +67,7 @@ abbrev pub OmChargeFollows : ℕ → Option ℤ → ℤ → ℤ → Type 0
 OmChargeFollows scale (Some factor) base r = NearestDollars scale base factor r
 OmChargeFollows scale None base r = r ≡ pos 0
 
+-- every charge of page 2 is nearest to its product, and the sums are exact
 pub record PageTwoFollows (scale : ℕ) (p : Factors) (om_base : Project → ℤ) (j : Project) (c : Columns) : Type 0 where
   pub transmission_om_expense_is_nearest : OmChargeFollows scale p.transmission_om (om_base j) c.transmission_om_expense
   pub other_expense_is_nearest : NearestDollars scale j.gross_plant p.expense.total c.other_expense
