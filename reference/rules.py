@@ -50,7 +50,7 @@ def rounded(amount, divisor):
 
 
 def rounded_down(amount, divisor):
-    """To the next whole number not above."""
+    """The largest whole number that is not above the quotient."""
     return amount // divisor
 
 
@@ -91,7 +91,7 @@ def holding(rates):
 
 
 def factor(rates, year):
-    """The sum of the rates of 24 months from January of the year, or None if one is missing."""
+    """What the rates of the year's months and of the next year's add up to, or None where a month has none."""
     found = [rates(month) for month in range(12 * year, 12 * year + INTEREST_MONTHS)]
     return None if None in found else sum(found)
 

@@ -10,7 +10,7 @@ unfoldable pub rounded : ℤ → ℕ → ℤ
 rounded (pos m) d = pos (nearest m d)
 rounded (negsuc m) d = neg_ℤ (pos (nearest (suc m) d))
 
--- n ÷ d to the next whole number not above
+-- the largest whole number that is not above n ÷ d
 unfoldable pub rounded_down : ℤ → ℕ → ℤ
 rounded_down (pos m) d = pos (m / d)
 rounded_down (negsuc m) d = negsuc (m / d)

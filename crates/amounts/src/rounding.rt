@@ -23,7 +23,7 @@ pub fn rounded(n: i64, d: NonZeroU64) -> i64
     signed as i64
 }
 
-/// `n ÷ d` to the next whole number not above.
+/// The largest whole number that is not above `n ÷ d`.
 pub fn rounded_down(n: i64, d: NonZeroU64) -> i64
     ensures value { result ≡ rounded_down_of n (non_zero_u64_get d) }
     ensures rounds_down { RoundsDown n (non_zero_u64_get d) result }

@@ -48,7 +48,7 @@ impl<J: Journal> Book<J> {
         }
     }
 
-    /// Files a project's requirement for the year, in dollars.
+    /// Files what a project's owner is to receive this year, in dollars.
     pub fn file(&mut self, project: i64, requirement: i64) -> Result<(), Refusal>
         ensures outcome { Gives (filed (view J.held self.old) project requirement) result (view J.held self.new) }
         ensures journal_stays { self.new.journal ≡ self.old.journal }
@@ -56,8 +56,8 @@ impl<J: Journal> Book<J> {
         self.table.file(project, requirement)
     }
 
-    /// Posts the year for a forecast in megawatt-hours, and answers the usage rate, in ten-thousandths
-    /// of a dollar for a megawatt-hour.
+    /// Posts the year for a forecast in megawatt-hours, and answers the usage rate: 1 is 0.0001 dollars
+    /// for a megawatt-hour.
     pub fn post(&mut self, forecast: i64) -> Result<i64, Refusal>
         ensures outcome { Gives (posted (view J.held self.old) forecast) result (view J.held self.new) }
         ensures journal_stays { self.new.journal ≡ self.old.journal }
@@ -65,8 +65,8 @@ impl<J: Journal> Book<J> {
         self.table.post(forecast)
     }
 
-    /// Pays each row its share of the money, and answers the change in the sum of paid and the till, in
-    /// cents.
+    /// Pays each row its share of the money, and answers by how much the sum of paid has changed and what
+    /// the till then is, in cents.
     pub fn pay(&mut self) -> Result<(i64, i64), Refusal>
         ensures outcome { Gives (paid (view J.held self.old)) result (view J.held self.new) }
         ensures journal_stays { self.new.journal ≡ self.old.journal }

@@ -102,7 +102,7 @@ impl RowTable {
         &self.rows[..self.count]
     }
 
-    /// The sum of the columns 16.
+    /// The total of column 16 over the rows.
     fn total(&self) -> i64
         ensures value { result ≡ total_of self.now.rows }
         ensures not_below { pos 0 ≤ℤ result }

@@ -29,7 +29,7 @@ pub enum Answer {
     Done,
     /// A usage rate, a charge or its change, or what the row looked at is paid.
     Amount(i64),
-    /// The change in the sum of paid, and the till.
+    /// By how much the sum of paid has changed, and the till.
     Paid(i64, i64),
     /// The number of the refusal.
     Refused(u8),

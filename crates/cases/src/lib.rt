@@ -1,4 +1,4 @@
-//! The worked cases, proved as one table about the definitions that the contracts cite.
+//! The worked cases: one table of what the definitions give that the contracts cite, proved as a whole.
 #![tactic(auto)]
 
 ghost use Rattle.cases.specs.Table.{WorkedCases};

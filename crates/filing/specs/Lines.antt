@@ -11,7 +11,7 @@ use Rattle.filing.specs.declared.refusal.Refusal.TheVariants.{NotALine}
 abbrev pub without : ℕ → List ℕ → Bool
 without b bytes = not (list_any (λ x. x == b) bytes)
 
--- a line is 56 bytes, none a newline, and then a newline
+-- a line is 56 bytes that are no newline, and a newline behind them
 abbrev pub whole : List ℕ → Bool
 whole line = slice_index line 56 == 10 && without 10 (take 56 line)
 

@@ -14,7 +14,7 @@ pub enum Refusal {
     ProjectNumberOutOfRange,
     /// The file has more than 65,536 bytes.
     FileTooLong,
-    /// Not 56 bytes, none a newline, and then a newline.
+    /// Not 56 bytes that are no newline, with a newline behind them.
     NotALine,
     /// No line of this letter belongs here.
     LetterOutOfPlace,

@@ -30,7 +30,7 @@ held_among entries q = option_map (λ e. e.kwh) (find (is_of q) entries)
 abbrev pub unused_among : List Entry → ℕ
 unused_among entries = count_by unused entries
 
--- a held pair has a place, and any other pair in range exactly while an entry is unused
+-- while an entry is unused every pair in range has a place, and else only those that are held
 abbrev pub places_among : List Entry → Places
 places_among entries q = is_some (held_among entries q) || (in_range q && nat_lt 0 (unused_among entries))
 

@@ -7,7 +7,7 @@ use crate::refusal::Refusal;
 /// The most kilowatt-hours that are held under a pair.
 pub const MOST_KWH: u64 = 10_000_000_000;
 
-/// A journal: the kilowatt-hours held under pairs of a participant and a month.
+/// A journal: for each pair of a participant and a month the kilowatt-hours that it holds, or none.
 pub trait Journal {
     // the number held under each pair, if there is one
     ghost held: { Self → Held };

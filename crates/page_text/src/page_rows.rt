@@ -17,7 +17,7 @@ const BLANK: PageRow = PageRow {
     annual_revenue_requirement: 0,
 };
 
-/// Up to 64 rows of a page in the order in which they print.
+/// Up to 64 rows of a page, the first to print first.
 #[derive(Drop)]
 pub struct PageRows {
     rows: Rows<PageRow, 64>,

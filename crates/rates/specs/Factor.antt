@@ -8,7 +8,7 @@ plus None b = None
 plus (Some x) None = None
 plus (Some x) (Some y) = Some (x + y)
 
--- the sum of the rates of `count` months from `first` on, or nothing if one is missing
+-- what the rates of `count` months from `first` on add up to, or nothing where a month has none
 unfoldable pub sum_of : Rates → ℕ → ℕ → Option ℕ
 sum_of rates first zero = Some 0
 sum_of rates first (suc n) = plus (sum_of rates first n) (rates (first + n))

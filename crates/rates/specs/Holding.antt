@@ -3,13 +3,13 @@ use Rattle.std.specs.Prelude.{◌≡◌, ℕ, zero, suc, ◌+◌, ◌<◌, ◌�
 use Rattle.std.specs.Option.{option_or}
 use Rattle.rates.specs.Rates.{Rates, Has}
 
--- the rate of the latest of the `count` months before a month that has one; there is no month below 0
+-- the latest rate among the `count` months before a month; there is no month below 0
 unfoldable pub latest_before : Rates → ℕ → ℕ → Option ℕ
 latest_before rates month zero = None
 latest_before rates zero (suc n) = None
 latest_before rates (suc month) (suc n) = option_or (rates month) (latest_before rates month n)
 
--- the month's own rate, or else the latest of the 24 months before it
+-- the month's own rate, or else the latest that one of 24 months before has
 abbrev pub held : Rates → Rates
 held rates month = option_or (rates month) (latest_before rates month 24)
 

@@ -5,7 +5,7 @@ ghost use Rattle.std.proofs.Common.{rules};
 
 use crate::rate_list::{RateList, counted_rate};
 
-/// The flat list: one given rate in every month.
+/// The flat list: the same rate, whatever the month.
 #[derive(Clone, Copy)]
 pub struct FlatList {
     // as given: a rate limited by `new` would need a ghost field for `bounded`, and is no plainer

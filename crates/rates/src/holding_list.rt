@@ -37,7 +37,7 @@ impl<L: RateList> RateList for HoldingList<L> {
     }
 }
 
-/// The rate of the latest of the `count` months before a month that has one.
+/// The latest rate among the `count` months before a month.
 fn latest_rate_before<L: RateList>(list: &L, month: u32, count: u32) -> Option<u32>
     ensures { result ≡ latest_before (L.rates list.now) month count }
 {

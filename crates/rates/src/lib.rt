@@ -1,4 +1,4 @@
-//! Rate lists: for each month a rate or nothing. The flat list, the quarter list, the holding
+//! Rate lists: what interest each month bears, if any. The flat list, the quarter list, the holding
 //! list over any list, the lists that a line of text can name, and the factor of a year.
 #![tactic(auto)]
 

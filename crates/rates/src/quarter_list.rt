@@ -8,14 +8,14 @@ use crate::rate_list::{RateList, counted_rate};
 /// The quarter list: one rate of a run after the other, a quarter each.
 #[derive(Drop)]
 pub struct QuarterList {
-    // 4 × year plus 0 to 3
+    // quarters counted through: the first of a year is 4 × year
     first: u32,
     run: Vec<u32>,
 }
 
 impl QuarterList {
-    /// The list whose rates stand one to a quarter, from the first quarter (4 × year plus 0 to 3)
-    /// on; a rate above the highest counts as nothing.
+    /// The list whose rates stand one to a quarter, from the quarter `first` on (January to March of a
+    /// year is 4 × year); a rate above the highest counts as nothing.
     pub fn new(first: u32, run: Vec<u32>) -> QuarterList
         ensures meaning { quarter_rates result ≡ quarterly first run.items }
         ensures each_rate_stands_for_three_months { QuarterByQuarter first run.items (quarter_rates result) }

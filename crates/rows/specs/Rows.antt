@@ -3,7 +3,7 @@ use Rattle.std.specs.Prelude.{◌≡◌, ℕ, cond, List, [], ◌∷◌, ◌++�
 use Rattle.rows.specs.declared.Full.{Full}
 use Rattle.rows.specs.declared.Rows.{Rows}
 
--- the rows in use, in the order in which they were added
+-- the rows in use, the oldest first
 abbrev pub rows_in : {T : Type 0} {MOST : ℕ} → Rows T MOST → List T
 rows_in r = take r.count r.places
 

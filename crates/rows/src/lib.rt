@@ -24,7 +24,7 @@ impl fmt::Display for Full {
 
 impl Error for Full {}
 
-/// Up to `MOST` rows in the order in which they were added; the first `count` places are in use.
+/// Up to `MOST` rows, the oldest first; the first `count` places are in use.
 // An array and a count: no call of a library allocates, and the library's `ArrayVec` is not `Copy`
 // and asks a default of each row, which a priced project has not.
 pub struct Rows<T, const MOST: usize> {

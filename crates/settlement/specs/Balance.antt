@@ -1,4 +1,4 @@
--- What balances between a tally and a book. Till, rows, paid, dues and kept cents are the book's; all else is the tally's.
+-- What balances between a tally and a book. A book gives its till and rows with paid, dues and kept cents; the rest is from the tally.
 use Rattle.std.specs.Prelude.{◌≡◌, ℕ, ◌≤◌, List, [], ◌∷◌, length, ℤ, pos, ◌+ℤ◌, ◌-ℤ◌, ◌*ℤ◌, ◌≤ℤ◌, ◌<ℤ◌, unsigned_abs}
 use Rattle.amounts.specs.Rounding.{NextNotAbove}
 use Rattle.settlement.specs.Books.{BookView, RowView, till}

@@ -33,7 +33,7 @@ bill_questions b place participant month kwh =
     ∷ ask place NoPlace  -- 12
     ∷ []
 
--- bill: the charge is the change; `place` says whether the journal has a place for the pair
+-- bill: the charge is the change; `place` says whether the pair has one in the journal
 abbrev pub billed : BookView → Bool → ℤ → ℤ → ℤ → Outcome ℤ
 billed b place participant month kwh =
     asked b (bill_questions b place participant month kwh)

@@ -36,7 +36,7 @@ file_questions b project requirement =
 abbrev pub filed_book : BookView → ℕ → ℤ → BookView
 filed_book b project requirement = with_rows (on_row project (with_filed (with_requirement requirement)) (with_row_for project b.rows)) b
 
--- file: sets a project's requirement for the year
+-- file: the requirement is the project's for this year
 abbrev pub filed : BookView → ℤ → ℤ → Outcome (Unit {0})
 filed b project requirement = asked b (file_questions b project requirement) (done tt (filed_book b (unsigned project) requirement))
 
@@ -48,7 +48,7 @@ all_filed rows = nat_le 1 (length rows) && list_all (λ r. is_some r.filed.requi
 abbrev pub is_forecast : ℤ → Bool
 is_forecast forecast = within (pos 1) (pos 1000000000) forecast
 
--- a usage rate in ten-thousandths of a dollar for a megawatt-hour: at most 100 dollars
+-- a usage rate, of which 10,000 are a dollar for a megawatt-hour: at most 100 dollars
 abbrev pub is_usage_rate : ℤ → Bool
 is_usage_rate rate = within (pos 1) (pos 1000000) rate
 

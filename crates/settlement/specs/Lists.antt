@@ -9,7 +9,7 @@ use Rattle.settlement.specs.Rules.{Terms}
 pub record Lists : Type 0 where
   pub rates : Rates
 
--- one factor for every difference: the sum of the rates of so many months from January of the year, where each has one
+-- one factor for every difference: what the rates of so many months add up to, January of the year first, where each has one
 abbrev pub terms_of : ℕ → Lists → ℕ → Option Terms
 terms_of months lists year = option_map (λ factor owed. factor) (sum_of lists.rates (january year) months)
 

@@ -17,7 +17,7 @@ with_share money total r = with_paid (share_of money total r) r
 abbrev pub paid_book : BookView → BookView
 paid_book b = with_rows (map (with_share b.money (total_of b.rows)) b.rows) b
 
--- the change in the sum of paid, and the till
+-- by how much the sum of paid has changed, and what the till then is
 abbrev pub pay_answer : BookView → ℤ × ℤ
 pay_answer b = (sum_of_paid (paid_book b).rows -ℤ sum_of_paid b.rows, till (paid_book b))
 

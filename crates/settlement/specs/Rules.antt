@@ -90,7 +90,7 @@ figures_on terms owed kept =
     let settling = (owed +ℤ borne) +ℤ kept in
     record { difference = owed; interest = borne; true_up = true_up settling; kept = left_over settling }
 
--- from what is stated as spent, the account and what was paid
+-- from the actual that is stated, the account and what was paid
 abbrev pub figures : Terms → ℤ → Account → ℤ → Figures
 figures terms actual account paid = figures_on terms (difference actual account.due_now paid) account.kept
 

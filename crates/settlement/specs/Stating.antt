@@ -1,4 +1,4 @@
--- State: what a project has spent in the year.
+-- State: what a project's requirement is on the actual costs of the year.
 use Rattle.std.specs.Prelude.{ℕ, List, [], ◌∷◌, ℤ}
 use Rattle.settlement.specs.declared.refusal.Refusal.TheVariants.{ProjectNumberOutOfRange, NotPosted, NoRow, ActualOutOfRange}
 use Rattle.settlement.specs.Rules.{unsigned}
@@ -18,6 +18,6 @@ state_questions b project actual =
 abbrev pub stated_book : BookView → ℕ → ℤ → BookView
 stated_book b project actual = with_rows (on_row project (with_filed (with_actual actual)) b.rows) b
 
--- state: sets a project's actual for the year
+-- state: the actual is the project's for this year
 abbrev pub stated : BookView → ℤ → ℤ → Outcome (Unit {0})
 stated b project actual = asked b (state_questions b project actual) (done tt (stated_book b (unsigned project) actual))

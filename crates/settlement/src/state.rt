@@ -3,6 +3,6 @@
 pub enum State {
     /// Requirements are filed.
     Draft,
-    /// The usage rate stands, in ten-thousandths of a dollar for a megawatt-hour.
+    /// The usage rate stands: 1 is 0.0001 dollars for a megawatt-hour.
     Posted(i64),
 }

@@ -14,7 +14,7 @@ use Rattle.settlement.specs.Paying.{paid}
 use Rattle.settlement.specs.Rules.{charge, charge_scale, figures, figures_on, left_over, nothing_due, rate_scale, true_up, usage_rate}
 use Rattle.settlement_cases.specs.Years.{ThreeYearsRun, book, row}
 
--- a posted year with columns 16 of 1 and 2, its money, what the two rows are paid, and the one reading
+-- a posted year in which column 16 is 1 for one row and 2 for the other, its money, what the two rows are paid, and the one reading
 abbrev pub two_columns : ℤ → ℤ → ℤ → ℤ → ℕ → BookView
 two_columns rate money paid_1 paid_2 kwh =
     book 2026 (Posted rate) money (row 1 (pos 0) (pos 0) (pos 0) (Some (pos 1)) None paid_1 ∷ row 2 (pos 0) (pos 0) (pos 0) (Some (pos 2)) None paid_2 ∷ []) (holding nothing_held (1, 1) kwh)
@@ -28,7 +28,7 @@ abbrev pub refund_filed : ℤ → BookView
 refund_filed requirement = book 2028 Draft (pos 0) (row 7 (neg_ℤ (pos 27825)) (pos 0) (pos 0) (Some requirement) None (pos 0) ∷ []) nothing_held
 
 pub record SettledCases : Type 0 where
-  -- columns 16 of 1 and 2: money of 100, the same resettled to 50, and three steps of one cent
+  -- with 1 and 2 as column 16: 100 cents of money, the same resettled to 50, and three steps of one cent
   pub money_of_100_pays_33_and_66 : paid (two_columns (pos 30000) (pos 100) (pos 0) (pos 0) 333) ≡ done (pos 99, pos 1) (two_columns (pos 30000) (pos 100) (pos 33) (pos 66) 333)
   pub money_resettled_to_50 : (resettled (two_columns (pos 30000) (pos 100) (pos 33) (pos 66) 333) (pos 1) (pos 1) (pos 167)).answer ≡ Ok (neg_ℤ (pos 50))
   pub money_of_50_pays_16_and_33 : paid (two_columns (pos 30000) (pos 50) (pos 33) (pos 66) 167) ≡ done (neg_ℤ (pos 50), pos 1) (two_columns (pos 30000) (pos 50) (pos 16) (pos 33) 167)

@@ -25,7 +25,7 @@ book year posted money rows held = record { year = year; state = posted; money =
 abbrev pub every_month : Lists
 every_month = record { rates = λ month. Some 25000 }
 
--- the first year before its close, the newest call first: columns 16 of 1 and 2, and 100 cents after a meter correction
+-- the first year before its close, the newest call first: 1 and 2 as column 16, and 100 cents after a meter correction
 abbrev pub first_year : List Call
 first_year =
     pay (Ok (pos 0, pos 1))

@@ -1,4 +1,4 @@
-//! The worked cases of the book, proved as one table about the definitions of settlement.
+//! The worked cases of the book: one table of what the definitions of settlement give, proved as a whole.
 #![tactic(auto)]
 
 ghost use Rattle.settlement_cases.specs.Table.{SettledCases};

@@ -25,7 +25,7 @@ Gives e r f = (r ≡ e.answer) × (f ≡ e.after)
 abbrev pub refused : Refusal → Figures → Entry
 refused why f = record { answer = Err why; after = f }
 
--- an amount for a figure; a later entry replaces an earlier one
+-- an amount for a figure, in place of one that it had
 abbrev pub entered : Figure → ℤ → Figures → Entry
 entered k x f = cond (amount_fits k x) (record { answer = Ok tt; after = with_figure k (Some x) f }) (refused AmountOutOfRange f)
 

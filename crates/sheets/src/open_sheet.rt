@@ -61,7 +61,7 @@ impl<T: Template> OpenSheet<T> {
         }
     }
 
-    /// Enters the amount of a line; a later entry replaces an earlier one.
+    /// Enters the amount of a line, in place of one that it had.
     pub fn enter(&mut self, line: T::Line, amount: i64) -> Result<(), Refusal>
         ensures { Gives (entered (T.rules.figure_of line) amount self.old) result self.new }
     {

@@ -7,7 +7,7 @@ use crate::row_table::RowTable;
 use settlement::Refusal;
 
 impl RowTable {
-    /// Pays: the change in the sum of paid, and the till.
+    /// Pays: by how much the sum of paid has changed, and what the till then is.
     pub(crate) fn pay(&mut self) -> Result<(i64, i64), Refusal>
         ensures { TableGives paid self.old result self.new }
     {

@@ -54,7 +54,7 @@ fn close_after_a_resettlement_asks_for_a_pay(rt: HostRuntime) {
     check_year(&rt, 2026, &RESETTLED_UNPAID);
 }
 
-// Columns 16 of 1 and 2.
+// Column 16 is 1 for one row and 2 for the other.
 #[rattlefmt::skip]
 static THREE_CENTS: [Step; 11] = [
     (File(7, 1), Done),
