@@ -137,10 +137,10 @@ spot_for es pair kwh ranged fits (Some i) is =
     let new : Entry = record { participant = pair.0; month = pair.1; kwh = kwh } in
     let w = written es pair new (and_from _ _ (and_from _ _ (eq-eqb pair.0 pair.0 refl) (eq-eqb pair.1 pair.1 refl)) (and_from _ _ ranged fits)) i (sym is) in
     record {
-      within = w.within;
-      ranged = ranged;
-      accepted = and_from (places_among es pair) (nat_le kwh most) w.placed fits;
-      holds = w.holds;
-      then_look = then_look (held_among es) (held_among (set es i new)) pair kwh w.holds;
-      unused_left = w.unused_left;
+      spot_is_within_the_run = w.within;
+      pair_is_in_range = ranged;
+      put_is_accepted = and_from (places_among es pair) (nat_le kwh most) w.placed fits;
+      run_then_holds_the_number = w.holds;
+      look_then_answers_it = then_look (held_among es) (held_among (set es i new)) pair kwh w.holds;
+      new_pair_takes_an_unused_entry = w.unused_left;
     }

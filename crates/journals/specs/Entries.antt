@@ -40,12 +40,12 @@ spot_among entries q = option_or (position (is_of q) entries) (position unused e
 
 -- what a put leaves of a run, where it is accepted and writes at a spot
 pub record PutAt (entries : List Entry) (q : Pair) (kwh spot : ℕ) : Type 0 where
-  pub within : spot < length entries
-  pub ranged : IsTrue (in_range q)
-  pub accepted : IsTrue (accepts (places_among entries) q kwh)
-  pub holds : Same (holding (held_among entries) q kwh) (held_among (slice_set entries spot (record { participant = q.0; month = q.1; kwh = kwh })))
-  pub then_look : PutThenLook (held_among entries) q kwh (Ok tt) (held_among (slice_set entries spot (record { participant = q.0; month = q.1; kwh = kwh })))
-  pub unused_left : unused_among (slice_set entries spot (record { participant = q.0; month = q.1; kwh = kwh })) ≡ cond (is_some (held_among entries q)) (unused_among entries) (unused_among entries - 1)
+  pub spot_is_within_the_run : spot < length entries
+  pub pair_is_in_range : IsTrue (in_range q)
+  pub put_is_accepted : IsTrue (accepts (places_among entries) q kwh)
+  pub run_then_holds_the_number : Same (holding (held_among entries) q kwh) (held_among (slice_set entries spot (record { participant = q.0; month = q.1; kwh = kwh })))
+  pub look_then_answers_it : PutThenLook (held_among entries) q kwh (Ok tt) (held_among (slice_set entries spot (record { participant = q.0; month = q.1; kwh = kwh })))
+  pub new_pair_takes_an_unused_entry : unused_among (slice_set entries spot (record { participant = q.0; month = q.1; kwh = kwh })) ≡ cond (is_some (held_among entries q)) (unused_among entries) (unused_among entries - 1)
 
 -- the spot of a put: none where it is refused
 abbrev pub SpotFor : List Entry → Pair → ℕ → Option ℕ → Type 0

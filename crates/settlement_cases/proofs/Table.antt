@@ -9,7 +9,7 @@ pub settled : SettledCases
 unfolding rounded rounded_down
 settled = record {
   money_of_100_pays_33_and_66 = refl;
-  money_resettled_to_50 = refl;
+  resettling_to_50_answers_50_below_zero = refl;
   money_of_50_pays_16_and_33 = refl;
   first_cent_pays_nothing = refl;
   second_cent_pays_0_and_1 = refl;
@@ -24,5 +24,5 @@ settled = record {
   half_a_dollar_below_settles_away_from_zero = (refl, refl);
   requirement_of_27825_is_filed = refl;
   requirement_of_27824_is_refused = refl;
-  three_years = three_years_run;
+  three_years_go_as_worked = three_years_run;
 }

@@ -193,4 +193,13 @@ ran = one_more (close every_month (Ok tt)) book_26 last_book (one_more (state (p
 
 pub three_years_run : ThreeYearsRun
 unfolding rounded rounded_down sum_of
-three_years_run = record { book_goes_through_them = ran; charged = refl; paid_out = refl; first_differences = (refl, refl); account_7 = refl; account_9 = refl; lifetime_7 = (refl, refl, refl); lifetime_9 = (refl, refl, refl) }
+three_years_run = record {
+  book_goes_through_them = ran;
+  charges_come_to_124 = refl;
+  payments_come_to_123 = refl;
+  first_differences_are_267_and_34 = (refl, refl);
+  account_7_has_5_due_now_8_due_next_and_49_kept = refl;
+  account_9_has_nothing_due_now_8_due_next_and_34_below_kept = refl;
+  project_7_has_receipts_45_interest_94_actuals_13 = (refl, refl, refl);
+  project_9_has_receipts_78_interest_44_actuals_8 = (refl, refl, refl);
+}

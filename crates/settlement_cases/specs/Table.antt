@@ -30,7 +30,7 @@ refund_filed requirement = book 2028 Draft (pos 0) (row 7 (neg_ℤ (pos 27825)) 
 pub record SettledCases : Type 0 where
   -- with 1 and 2 as column 16: 100 cents of money, the same resettled to 50, and three steps of one cent
   pub money_of_100_pays_33_and_66 : paid (two_columns (pos 30000) (pos 100) (pos 0) (pos 0) 333) ≡ done (pos 99, pos 1) (two_columns (pos 30000) (pos 100) (pos 33) (pos 66) 333)
-  pub money_resettled_to_50 : (resettled (two_columns (pos 30000) (pos 100) (pos 33) (pos 66) 333) (pos 1) (pos 1) (pos 167)).answer ≡ Ok (neg_ℤ (pos 50))
+  pub resettling_to_50_answers_50_below_zero : (resettled (two_columns (pos 30000) (pos 100) (pos 33) (pos 66) 333) (pos 1) (pos 1) (pos 167)).answer ≡ Ok (neg_ℤ (pos 50))
   pub money_of_50_pays_16_and_33 : paid (two_columns (pos 30000) (pos 50) (pos 33) (pos 66) 167) ≡ done (neg_ℤ (pos 50), pos 1) (two_columns (pos 30000) (pos 50) (pos 16) (pos 33) 167)
   pub first_cent_pays_nothing : paid (two_columns (pos 30000) (pos 1) (pos 0) (pos 0) 3) ≡ done (pos 0, pos 1) (two_columns (pos 30000) (pos 1) (pos 0) (pos 0) 3)
   pub second_cent_pays_0_and_1 : paid (two_columns (pos 30000) (pos 2) (pos 0) (pos 0) 7) ≡ done (pos 1, pos 1) (two_columns (pos 30000) (pos 2) (pos 0) (pos 1) 7)
@@ -51,4 +51,4 @@ pub record SettledCases : Type 0 where
   pub requirement_of_27825_is_filed : filed refund_due (pos 7) (pos 27825) ≡ done tt (refund_filed (pos 27825))
   pub requirement_of_27824_is_refused : filed refund_due (pos 7) (pos 27824) ≡ refused RequirementOutOfRange refund_due
   -- a run of three years
-  pub three_years : ThreeYearsRun
+  pub three_years_go_as_worked : ThreeYearsRun

@@ -73,10 +73,10 @@ last_book = book 2029 Draft (pos 1) (row 7 (pos 5) (pos 8) (pos 49) None None (p
 
 pub record ThreeYearsRun : Type 0 where
   pub book_goes_through_them : Run (λ b. b) (λ b pair. true) (opened 2026) three_years last_book
-  pub charged : charges (tally 2026 three_years) ≡ pos 124
-  pub paid_out : (tally 2026 three_years).payments ≡ pos 123
-  pub first_differences : (difference_in (tally 2026 first_year) 7 ≡ pos 267) × (difference_in (tally 2026 first_year) 9 ≡ pos 34)
-  pub account_7 : (tally 2026 three_years).past.accounts 7 ≡ record { due_now = pos 5; due_next = pos 8; kept = pos 49 }
-  pub account_9 : (tally 2026 three_years).past.accounts 9 ≡ record { due_now = pos 0; due_next = pos 8; kept = neg_ℤ (pos 34) }
-  pub lifetime_7 : ((tally 2026 three_years).past.receipts 7 ≡ pos 45) × ((tally 2026 three_years).past.interest 7 ≡ pos 94) × (closed_actuals (tally 2026 three_years) 7 ≡ pos 13)
-  pub lifetime_9 : ((tally 2026 three_years).past.receipts 9 ≡ pos 78) × ((tally 2026 three_years).past.interest 9 ≡ pos 44) × (closed_actuals (tally 2026 three_years) 9 ≡ pos 8)
+  pub charges_come_to_124 : charges (tally 2026 three_years) ≡ pos 124
+  pub payments_come_to_123 : (tally 2026 three_years).payments ≡ pos 123
+  pub first_differences_are_267_and_34 : (difference_in (tally 2026 first_year) 7 ≡ pos 267) × (difference_in (tally 2026 first_year) 9 ≡ pos 34)
+  pub account_7_has_5_due_now_8_due_next_and_49_kept : (tally 2026 three_years).past.accounts 7 ≡ record { due_now = pos 5; due_next = pos 8; kept = pos 49 }
+  pub account_9_has_nothing_due_now_8_due_next_and_34_below_kept : (tally 2026 three_years).past.accounts 9 ≡ record { due_now = pos 0; due_next = pos 8; kept = neg_ℤ (pos 34) }
+  pub project_7_has_receipts_45_interest_94_actuals_13 : ((tally 2026 three_years).past.receipts 7 ≡ pos 45) × ((tally 2026 three_years).past.interest 7 ≡ pos 94) × (closed_actuals (tally 2026 three_years) 7 ≡ pos 13)
+  pub project_9_has_receipts_78_interest_44_actuals_8 : ((tally 2026 three_years).past.receipts 9 ≡ pos 78) × ((tally 2026 three_years).past.interest 9 ≡ pos 44) × (closed_actuals (tally 2026 three_years) 9 ≡ pos 8)

@@ -121,8 +121,8 @@ factors_follow scale e h =
     let told = bases_told e h in
     record {
       line_4_is_nearest_to_its_quotient = om_follows scale e.transmission_om told.0;
-      expense = expense_follows scale e.expense told.1;
-      return = return_follows scale e.returns told.2;
+      line_9_and_its_parts_are_nearest = expense_follows scale e.expense told.1;
+      line_14_and_its_parts_are_nearest = return_follows scale e.returns told.2;
     }
 
 -- page 1 finished: every question was answered yes

@@ -55,8 +55,8 @@ pub record ReturnFollows (scale : ℕ) (e : ReturnElements) (p : ReturnFactors) 
 -- every factor of page 1 is nearest to the quotient that the tariff prints for its line
 pub record PageOneFollows (scale : ℕ) (e : Elements) (p : Factors) : Type 0 where
   pub line_4_is_nearest_to_its_quotient : OmFollows scale e.transmission_om p.transmission_om
-  pub expense : ExpenseFollows scale e.expense p.expense
-  pub return : ReturnFollows scale e.returns p.returns
+  pub line_9_and_its_parts_are_nearest : ExpenseFollows scale e.expense p.expense
+  pub line_14_and_its_parts_are_nearest : ReturnFollows scale e.returns p.returns
 
 -- a charge is the whole number of dollars nearest to the product of an amount and a factor
 abbrev pub NearestDollars : ℕ → ℤ → ℤ → ℤ → Type 0

@@ -7,6 +7,16 @@ use Rattle.cases.proofs.worked_cases.Goals as goal
 pub returns : goal.returns
 unfolding rounded
 returns c = record {
-  table = record { mm_factors = refl; mm_project_7 = refl; cc_factors = refl; cc_project_1 = refl; cc_project_2 = refl; cc_project_3 = refl; rate_held_to_december_2014 = held_to_december_2014; no_rate_in_january_2015 = none_in_january_2015; book = settled };
+  table = record {
+    mm_lines_4_9_and_14_are_250_350_and_1000 = refl;
+    mm_project_7_requires_2950000 = refl;
+    cc_lines_9_and_14_are_371_and_1132 = refl;
+    cc_project_1_requires_3749400 = refl;
+    cc_project_2_requires_1476600 = refl;
+    cc_project_3_requires_2254500 = refl;
+    rate_held_to_december_2014 = held_to_december_2014;
+    no_rate_in_january_2015 = none_in_january_2015;
+    book_settles_as_worked = settled;
+  };
   count = refl;
 }
