@@ -9,6 +9,7 @@ from rules import WHY, Refused, flat, holding, quarterly
 # --- a line as an entry ---------------------------------------------------------------------
 
 LONGEST_LINE = 65_536
+BYTE_ORDER_MARK = b"\xef\xbb\xbf"
 MOST_PARTICIPANTS = 65_535
 MOST_RECORDS = 1_000_000
 
@@ -137,16 +138,17 @@ class Desk:
         texts = summary(self.run.book) if self.run else []
         return [b"%s\n" % text.encode() for text in texts]
 
-    def line(self, number, line):
+    def line(self, number, line, longest=LONGEST_LINE):
         """What is printed for a line, which is given without its newline."""
-        if line in (b"", b"\r") or line.startswith(b"#"):
+        is_too_long = len(line) > longest
+        shown = line[:longest] if is_too_long else line.removesuffix(b"\r")
+        content = shown if is_too_long else shown.rstrip(b",")
+        if content == b"" or content.startswith((b"#", b'"#')):
             return []
-        is_too_long = len(line) > LONGEST_LINE
-        shown = line[:LONGEST_LINE] if is_too_long else line.removesuffix(b"\r")
         before = []
         try:
             read(not is_too_long)
-            name, arguments = entry(shown)
+            name, arguments = entry(content)
             before = self.summary() if name == "open" else []
             answer = self.answer(name, arguments)
         except Unread:
@@ -157,6 +159,9 @@ class Desk:
 def replay(text, explain=False):
     """All that is printed for a daybook. Its last line may lack the newline."""
     desk = Desk(explain)
-    for number, line in enumerate(text.split(b"\n"), 1):
+    mark = BYTE_ORDER_MARK if text.startswith(BYTE_ORDER_MARK) else b""
+    first, *lines = text.removeprefix(mark).split(b"\n")
+    yield from desk.line(1, first, LONGEST_LINE - len(mark))
+    for number, line in enumerate(lines, 2):
         yield from desk.line(number, line)
     yield from desk.summary()

@@ -3,7 +3,7 @@
 import random
 from collections import Counter, defaultdict
 
-from daybook import LONGEST_LINE, Desk, entry
+from daybook import BYTE_ORDER_MARK, LONGEST_LINE, Desk, entry
 from rules import Refused
 
 FORECAST, DOLLARS, KWH, LAST_YEAR = 1_000_000_000, 100_000_000, 10_000_000_000, 65_535
@@ -181,7 +181,7 @@ def said(times):
 
 # --- as a daybook ---------------------------------------------------------------------------
 
-PASSED_OVER = [b"", b"", b"#", b"# a remark", b"# pay", b"#open,2026,table,1", "# Größe".encode(), b"# \xff"]
+PASSED_OVER = [b"", b"", b"#", b"# a remark", b"# pay", b"#open,2026,table,1", "# Größe".encode(), b"# \xff", b",,,", b'"# a, b",,']
 NO_NUMBERS = [b"", b"-", b"-0", b"+1", b"--1", b"01", b"-01", b"1 ", b" 1", b"1.0", b"1e3", b"1_000", b"0x1"]
 NO_NUMBERS += ["\u0661".encode(), "\uff11".encode(), b"1\xff", b"1\0", b"9" * 5_000]
 TOO_LARGE = [2**16, 10**6 + 1, 2**32, 2**63, -(2**63) - 1, 2**64, 10**30, -(10**30), -1]
@@ -241,6 +241,8 @@ def random_lines(dice, count):
         line = text_of(words)
         if dice.random() < 0.04:
             line = damaged(dice, line)
+        if dice.random() < 0.04:
+            line += b"," * dice.randrange(1, 6)
         desk.line(0, line)
         yield line
         if dice.random() < 0.04:
@@ -248,8 +250,8 @@ def random_lines(dice, count):
 
 
 def random_daybook(seed, count):
-    """A daybook with so many entries, in bytes; its last line may lack the newline."""
+    """A daybook with so many entries, in bytes; it may begin with a mark, and its last line may lack the newline."""
     dice = random.Random(seed)
     lines = [line + dice.choices([b"\n", b"\r\n"], [9, 1])[0] for line in random_lines(dice, count)]
-    text = b"".join(lines)
+    text = dice.choice([b"", b"", b"", BYTE_ORDER_MARK]) + b"".join(lines)
     return text if dice.random() < 0.5 else text.removesuffix(b"\n")

@@ -13,7 +13,7 @@ from here:
     python3 reference/reference.py daybook [--explain] < DAYBOOK
                                                       what `daybook` prints for a daybook, with the law checked after each
     python3 reference/reference.py daybooks SEED COUNT
-                                                      a daybook of so many entries, made at random; with 5 and
+                                                      a daybook of so many entries, made at random; with 14 and
                                                       20000 it is crates/daybook/stdin
 """
 

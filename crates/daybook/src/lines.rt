@@ -2,15 +2,20 @@ use entries::{Line, read_line};
 use std::alloc::{AllocError, Global};
 use std::io;
 use std::io::{BufRead, Take};
+use std::mem;
 
 /// The most bytes that a line may have without its newline.
 const LONGEST: usize = 65_536;
+
+/// The mark that some programs write before a text in UTF-8.
+const BYTE_ORDER_MARK: &[u8] = b"\xEF\xBB\xBF";
 
 /// The lines of an input, read one after the other into the same memory.
 #[derive(Drop)]
 pub struct Lines<R> {
     input: Take<R>,
     line: Vec<u8>,
+    is_first: bool,
 }
 
 /// A line as it stands in the input, without its newline: of one that is too long the first bytes.
@@ -29,6 +34,7 @@ impl<R: BufRead> Lines<R> {
         Ok(Lines {
             input: input.take(0),
             line,
+            is_first: true,
         })
     }
 
@@ -48,9 +54,18 @@ impl<R: BufRead> Lines<R> {
             self.skip_to_next_line()?;
         }
         Ok(Some(RawLine {
-            bytes: &self.line,
+            bytes: self.without_mark(),
             is_too_long,
         }))
+    }
+
+    /// The line without the mark before the first.
+    fn without_mark(&mut self) -> &[u8] {
+        let is_first = mem::replace(&mut self.is_first, false);
+        match self.line.strip_prefix(BYTE_ORDER_MARK) {
+            Some(line) if is_first => line,
+            _ => &self.line,
+        }
     }
 
     fn skip_to_next_line(&mut self) -> io::Result<()> {
@@ -71,7 +86,7 @@ impl<'a> RawLine<'a> {
 
     /// What the line is.
     pub fn read(self) -> Line<'a> {
-        if self.bytes.starts_with(b"#") {
+        if self.bytes.starts_with(b"#") || self.bytes.starts_with(b"\"#") {
             return Line::Passed;
         }
         if self.is_too_long {

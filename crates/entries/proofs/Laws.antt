@@ -1,9 +1,8 @@
 -- A line is read as the entry whose text it is.
 use Rattle.std.proofs.Common.{◌≡◌, ℕ, Bool, true, false, cond, List, Option, Some, None, refl, sym, ap, ◌∙◌}
-use Rattle.std.specs.Str.Lines.{strip_carriage_return}
 use Rattle.std.proofs.lemmas.Bool.{cond-false, cond-true}
 use Rattle.std.proofs.lemmas.Option.{same_Some}
-use Rattle.entries.specs.Lines.{ReadsEntryTexts, entry_or_unread, line_in, passed_over, text_in}
+use Rattle.entries.specs.Lines.{ReadsEntryTexts, content_of, entry_or_unread, line_in, passed_over, text_in}
 use Rattle.entries.specs.Readings.{entry_in}
 use Rattle.entries.specs.Texts.{Fits, entry_text}
 use Rattle.entries.specs.declared.entry.Entry as entry
@@ -65,7 +64,7 @@ one_entry text d e p q = same_Some d e (sym (text_read d p.0) ∙ ap entry_in (s
 pub reads_entry_texts : (line : List ℕ) → ReadsEntryTexts line (line_in line)
 unfolding line_in
 reads_entry_texts line =
-    let text = strip_carriage_return line in
+    let text = content_of line in
     record {
       text_of_an_entry_is_read = λ e t. entry_read text e t.0 t.1;
       entry_read_has_that_text = read_entry text;

@@ -1,6 +1,6 @@
 ghost use Rattle.std.specs.Prelude.{◌≡◌};
 ghost use Rattle.std.specs.Str.Lines.{strip_carriage_return};
-ghost use Rattle.entries.specs.Lines.{ReadsEntryTexts, line_in, passed_over, text_in};
+ghost use Rattle.entries.specs.Lines.{ReadsEntryTexts, line_in, passed_over, text_in, without_commas as without_commas_of};
 
 use crate::entry::Entry;
 use crate::reading::read_entry;
@@ -8,7 +8,7 @@ use crate::reading::read_entry;
 /// What a line of a daybook is.
 #[derive(Drop)]
 pub enum Line<'a> {
-    /// An empty line, or one that begins with `#`.
+    /// An empty line, or a remark: one that begins with `#` or with `"#`.
     Passed,
     Entry(Entry<'a>),
     /// Any other line.
@@ -22,14 +22,24 @@ fn without_cr(line: &str) -> &str
     line.strip_suffix('\r').unwrap_or(line)
 }
 
+/// A line without the commas at its end: a spreadsheet fills its rows up with them.
+fn without_commas(line: &str) -> &str
+    ensures { result.now ≡ without_commas_of line.now }
+{
+    match line.strip_suffix(',') {
+        Some(front) => without_commas(front),
+        None => line,
+    }
+}
+
 /// Whether a line is passed over.
 fn is_passed_over(line: &str) -> bool
     ensures { result ≡ passed_over line.now }
 {
-    matches!(line.as_bytes(), [] | [b'#', ..])
+    matches!(line.as_bytes(), [] | [b'#', ..] | [b'"', b'#', ..])
 }
 
-/// What a line is that has no carriage return to drop.
+/// What a line is whose end has nothing to drop.
 fn read_text(text: &str) -> Line<'_>
     ensures { result ≡ text_in text.now }
 {
@@ -42,11 +52,12 @@ fn read_text(text: &str) -> Line<'_>
     }
 }
 
-/// Reads a line, given without its newline. A carriage return at its end is dropped.
+/// Reads a line, given without its newline. A carriage return at its end is dropped, and then the
+/// commas at its end.
 #[tactic(auto, using(crate::proofs::Laws::reads_entry_texts), unfolding(crate::specs::Lines::line_in))]
 pub fn read_line(line: &str) -> Line<'_>
     ensures reading { result ≡ line_in line.now }
     ensures reads_entry_texts { ReadsEntryTexts line.now result }
 {
-    read_text(without_cr(line))
+    read_text(without_commas(without_cr(line)))
 }

@@ -46,7 +46,9 @@ fn entries(rt: HostRuntime) {
     assert!(rt;
         matches!(read_line("resettle,7,1,1000"), Line::Entry(Entry::Resettle(r)) if r == reading)
     );
-    assert!(rt; matches!(read_line("pay"), Line::Entry(Entry::Pay)));
+    for line in ["pay", "pay,", "pay,,,,\r"] {
+        assert!(rt; matches!(read_line(line), Line::Entry(Entry::Pay)));
+    }
     assert!(rt;
         matches!(
             read_line("state,7,9223372036854775807"),
@@ -79,6 +81,7 @@ fn closes_with(rt: &(impl Abort + AllocGlobal), line: &str, month: u32, rate: Op
 fn lists(rt: HostRuntime) {
     closes_with(&rt, "close,flat,25", 0, Some(25));
     closes_with(&rt, "close,quarter,1,40,100001,60", 3, Some(40));
+    closes_with(&rt, "close,quarter,1,40,100001,60,,,", 3, Some(40));
     closes_with(&rt, "close,quarter,1,40,100001,60", 6, None);
     closes_with(&rt, "close,holding,quarter,1,40,100001,60", 6, Some(40));
     closes_with(&rt, "close,holding,flat,4294967295", 6, None);
@@ -86,12 +89,15 @@ fn lists(rt: HostRuntime) {
 
 #[test]
 fn no_entries(rt: HostRuntime) {
-    for line in ["", "\r", "#", "# pay", "#\r"] {
+    for line in ["", "\r", ",", ",,\r", "#", "# pay", "#\r", "\"# a, b\",,"] {
         assert!(rt; matches!(read_line(line), Line::Passed));
     }
     let unread = [
-        "pay,",
         " pay",
+        "pay, ",
+        ",pay",
+        "pay,\r,",
+        "\"pay\"",
         "pay ",
         "Pay",
         "pay\r\r",
@@ -103,7 +109,7 @@ fn no_entries(rt: HostRuntime) {
         "post,+1",
         "post, 1",
         "post,1 ",
-        "post,1,",
+        "post,,1",
         "post,9223372036854775808",
         "file,1",
         "file,1,2,3",
@@ -122,11 +128,9 @@ fn no_entries(rt: HostRuntime) {
         "close,flat,1,2",
         "close,quarter,1",
         "close,quarter,1,",
-        "close,quarter,1,2,",
         "close,quarter,1,,2",
         "close,holding",
         "close,holding,holding,flat,1",
-        ",",
         "bill",
         "é",
     ];
