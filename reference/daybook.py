@@ -22,9 +22,9 @@ class Unread(Exception):
     """A line that is no entry."""
 
 
-def read(holds):
+def read(holds, why="no entry is written like this"):
     if not holds:
-        raise Unread
+        raise Unread(why)
 
 
 def number(word, low=-(2**63), high=2**63 - 1):
@@ -122,7 +122,7 @@ class Desk:
         if name == "open":
             self.run = Run(*arguments)
             return None
-        read(self.run is not None)
+        read(self.run is not None, "no book is open")
         return self.run.call(name, *arguments)
 
     def answer(self, name, arguments):
@@ -151,8 +151,8 @@ class Desk:
             name, arguments = entry(content)
             before = self.summary() if name == "open" else []
             answer = self.answer(name, arguments)
-        except Unread:
-            answer = "unread"
+        except Unread as why:
+            answer = f"unread: {why}" if self.explain else "unread"
         return [*before, b"%d: %s -> %s\n" % (number, shown, answer.encode())]
 
 

@@ -34,6 +34,6 @@ while [ "$seed" -le "$last" ]; do
         cmp "$work/ours" "$work/second" || { echo "seed $seed $explain: they differ" >&2; exit 1; }
     done
     echo "seed $seed: $(lines_with '^[0-9]+: ') entries agree: $(lines_with ' -> opened') books," \
-        "$(lines_with ' -> closed') closes, $(lines_with ' -> refused') refused, $(lines_with ' -> unread$') unread"
+        "$(lines_with ' -> closed') closes, $(lines_with ' -> refused') refused, $(lines_with ' -> unread') unread"
     seed=$((seed + 1))
 done

@@ -49,14 +49,17 @@ impl<W: Write + Drop> Daybook<W> {
     }
 
     fn answer_line(&mut self, number: u64, line: RawLine<'_>) -> Result<()> {
-        let answer = match line.read() {
+        let (answer, why_unread) = match line.read() {
             Line::Passed => return Ok(()),
-            Line::Unread => Answer::Unread,
-            Line::Entry(entry) => self
-                .answer(&entry)
-                .context(format_args!("line {number} cannot be answered"))?,
+            Line::Unread => (Answer::Unread, "no entry is written like this"),
+            Line::Entry(entry) => {
+                let answer = self
+                    .answer(&entry)
+                    .context(format_args!("line {number} cannot be answered"))?;
+                (answer, "no book is open")
+            }
         };
-        self.show_answer(number, line.shown(), &answer)
+        self.show_answer(number, line.shown(), &answer, why_unread)
             .context(UNWRITTEN)
     }
 
@@ -78,13 +81,20 @@ impl<W: Write + Drop> Daybook<W> {
         Ok(Answer::Opened { year })
     }
 
-    fn show_answer(&mut self, number: u64, line: &[u8], answer: &Answer) -> io::Result<()> {
+    fn show_answer(
+        &mut self,
+        number: u64,
+        line: &[u8],
+        answer: &Answer,
+        why_unread: &str,
+    ) -> io::Result<()> {
         write!(self.out, "{number}: ")?;
         self.out.write_all(line)?;
         match answer {
             Answer::Refused(refusal) if self.explain => {
                 writeln!(self.out, " -> {answer}: {refusal}")
             }
+            Answer::Unread if self.explain => writeln!(self.out, " -> {answer}: {why_unread}"),
             _ => writeln!(self.out, " -> {answer}"),
         }
     }

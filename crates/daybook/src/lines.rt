@@ -1,8 +1,7 @@
 use entries::{Line, read_line};
 use std::alloc::{AllocError, Global};
-use std::io;
 use std::io::{BufRead, Take};
-use std::mem;
+use std::{io, mem};
 
 /// The most bytes that a line may have without its newline.
 const LONGEST: usize = 65_536;

@@ -4,7 +4,7 @@ const USAGE: &str = "\
 daybook answers a daybook on standard input, line by line.
 
   daybook < DAYBOOK              prints each entry with its answer
-  daybook --explain < DAYBOOK    says also in words why an entry is refused
+  daybook --explain < DAYBOOK    says also in words why an entry is refused or unread
 
 An entry is a line of words with commas between them:
 
@@ -22,7 +22,7 @@ An entry is a line of words with commas between them:
   close,holding,flat,RATE
   close,holding,quarter,FIRSTQUARTER,RATE,RATE,...
 
-Empty lines and lines that begin with # are passed over.
+Empty lines and lines that begin with # are passed over, as are commas at the end of a line.
 ";
 
 pub fn show(rt: &impl Print) -> io::Result<()> {

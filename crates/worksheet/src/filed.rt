@@ -1,5 +1,6 @@
 use crate::layout::Printed;
 use crate::pages::{Row, print_pages};
+use anyhow::{Context, Result};
 use filing::{Filing, LONGEST, LineRefusal, Pages, read_pages};
 use std::io;
 use std::io::Read;
@@ -14,21 +15,47 @@ fn print_filed<T: Printed>(rt: &(impl Print + AllocGlobal), pages: &Pages<T>) ->
     print_pages(rt, &pages.sheet, &rows)
 }
 
+/// Prints why a filing is refused, and the line as it stands there.
+fn show_refusal(rt: &impl Print, file: &[u8], refused: LineRefusal) -> io::Result<()> {
+    let LineRefusal { line, refusal } = refused;
+    println!(rt;
+        "Line {line} of the filing is refused ({}): {refusal}.",
+        refusal.number()
+    )?;
+    match file
+        .split(|byte| *byte == b'\n')
+        .nth((line as usize).saturating_sub(1))
+    {
+        Some(text) if !text.is_empty() => show_line(rt, text),
+        _ => Ok(()),
+    }
+}
+
+fn show_line(rt: &impl Print, text: &[u8]) -> io::Result<()> {
+    let end = if text.ends_with(b"\r") {
+        ", the last a carriage return"
+    } else {
+        ""
+    };
+    println!(rt; "The line has {} bytes{end}:", text.len())?;
+    rt.write_all(text.trim_ascii_end())?;
+    println!(rt)
+}
+
 /// Prints both pages of the filing that is read, or why it is refused.
-pub fn show_filing(rt: &(impl Print + AllocGlobal), input: impl Read + Drop) -> io::Result<()> {
+pub fn show_filing(rt: &(impl Print + AllocGlobal), input: impl Read + Drop) -> Result<()> {
     // As in pages: both are programs, and no library allocates.
     let mut file = Vec::new(rt.alloc());
     // One byte more, so that a longer filing is seen to be too long.
-    input.take(LONGEST as u64 + 1).read_to_end(&mut file)?;
+    input
+        .take(LONGEST as u64 + 1)
+        .read_to_end(&mut file)
+        .context("the filing cannot be read")?;
     match read_pages(&file) {
         // An arm for each template: each is a type of pages of its own, and a pattern binds one type.
         Ok(Filing::Mm(pages)) => print_filed(rt, &pages),
         Ok(Filing::Cc(pages)) => print_filed(rt, &pages),
-        Err(LineRefusal { line, refusal }) => {
-            println!(rt;
-                "Line {line} of the filing is refused ({}): {refusal}.",
-                refusal.number()
-            )
-        }
+        Err(refused) => show_refusal(rt, &file, refused),
     }
+    .context("the pages cannot be written")
 }

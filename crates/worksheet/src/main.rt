@@ -7,6 +7,7 @@ mod pages;
 mod task;
 mod text;
 
+use anyhow::{Context, Result};
 use std::{env, io};
 
 fn show_usage(rt: &impl Print) -> io::Result<()> {
@@ -16,10 +17,12 @@ fn show_usage(rt: &impl Print) -> io::Result<()> {
     println!(rt; "  worksheet --example    works a built-in task and prints both pages")
 }
 
-fn main(rt: HostRuntime) -> io::Result<()> {
+fn main(rt: HostRuntime) -> Result<()> {
     match env::args(&rt)?.nth(1) {
         None => filed::show_filing(&rt, rt.stdin()),
-        Some(word) if word.as_str() == "--example" => example::show_example(&rt),
-        Some(_) => show_usage(&rt),
+        Some(word) if word.as_str() == "--example" => {
+            example::show_example(&rt).context("the pages cannot be written")
+        }
+        Some(_) => Ok(show_usage(&rt)?),
     }
 }
