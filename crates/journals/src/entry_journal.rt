@@ -47,6 +47,7 @@ impl EntryJournal {
     pub fn new(entries: Vec<Entry>) -> EntryJournal
         ensures map { entries_held result ≡ held_among entries.items }
         ensures places { entries_place result ≡ places_among entries.items }
+        ensures run { vec_items result.entries ≡ entries.items }
     {
         EntryJournal { entries }
     }
