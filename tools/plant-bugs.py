@@ -78,8 +78,8 @@ def copied_with(bugs_by_crate, folder):
 def place(verdict):
     """Where the prover stopped: a file, and the need that does not hold there."""
     found = re.search(r"(src|proofs)/[\w/.-]+", verdict)
-    need = re.search(r"`([\w-]+)`\)?[;:,]", verdict)
-    return (found.group(0) if found else "?") + (f", {need.group(1)}" if need else "")
+    need = re.search(r"\(`([\w-]+)`\)|: `([\w-]+)`: ", verdict)
+    return (found.group(0) if found else "?") + (f", {need.group(1) or need.group(2)}" if need else "")
 
 
 def verdicts(folder, crates):
