@@ -1,4 +1,4 @@
-ghost use Rattle.std.specs.Prelude.{IfOk};
+ghost use Rattle.std.specs.Prelude.{◌≡◌, MatchResult};
 ghost use Rattle.daybook.specs.Entries.{Performs, called, closing};
 ghost use Rattle.rates.specs.Named.{named_rates};
 ghost use Rattle.settlement.specs.Outcomes.{Gives};
@@ -22,13 +22,13 @@ fn close<J: Journal>(book: &mut Book<J>, list: &NamedList) -> Result<Answer, Ref
     })
 }
 
-/// The call of an entry, once there is memory for the list that it names.
+/// The call of an entry, once there is memory for the list that it names; without it nothing changes.
 fn call<J: Journal>(
     alloc: Global,
     book: &mut Book<J>,
     entry: &Entry<'_>,
 ) -> Result<Result<Answer, Refusal>, AllocError>
-    ensures { IfOk result (λ answer. Gives (called (view J.held book.old) (places J.place book.old) entry.now) answer (view J.held book.new)) }
+    ensures { MatchResult result (λ answer. Gives (called (view J.held book.old) (places J.place book.old) entry.now) answer (view J.held book.new)) (λ no_memory. book.new ≡ book.old) }
 {
     Ok(match entry {
         Entry::Open { .. } => Ok(Answer::Unread),
@@ -51,13 +51,13 @@ fn call<J: Journal>(
 }
 
 /// Performs an entry on the book that is open. An open begins another book, and changes nothing on
-/// this one.
+/// this one; nor does a close for whose list there is no memory.
 pub fn perform<J: Journal>(
     alloc: Global,
     book: &mut Book<J>,
     entry: &Entry<'_>,
 ) -> Result<Answer, AllocError>
-    ensures { IfOk result (λ answer. Performs (called (view J.held book.old) (places J.place book.old) entry.now) answer (view J.held book.new)) }
+    ensures { MatchResult result (λ answer. Performs (called (view J.held book.old) (places J.place book.old) entry.now) answer (view J.held book.new)) (λ no_memory. book.new ≡ book.old) }
 {
     Ok(call(alloc, book, entry)?.unwrap_or_else(Answer::Refused))
 }

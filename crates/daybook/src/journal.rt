@@ -1,4 +1,5 @@
-ghost use Rattle.daybook.specs.Journals.{desk_held, desk_place};
+ghost use Rattle.std.specs.Prelude.{IfOk};
+ghost use Rattle.daybook.specs.Journals.{DeskPut, DeskWiped, HasRoom, desk_held, desk_place};
 ghost use Rattle.daybook.specs.declared.journal.DeskJournal.TheVariants.{Table, Entries};
 ghost use Rattle.journals.specs.EntryLaws.{entries_lawful};
 ghost use Rattle.std.proofs.Common.{rules};
@@ -15,7 +16,10 @@ pub enum DeskJournal {
 }
 
 impl DeskJournal {
-    pub fn new(alloc: Global, kind: JournalKind) -> Result<DeskJournal, AllocError> {
+    /// A journal of a kind, with the room that it names.
+    pub fn new(alloc: Global, kind: JournalKind) -> Result<DeskJournal, AllocError>
+        ensures { IfOk result (λ journal. HasRoom kind journal) }
+    {
         Ok(match kind {
             JournalKind::Table(participants) => {
                 let numbers = vec![in alloc; 0; 12 * usize::from(participants)]?;
@@ -33,6 +37,10 @@ impl Journal for DeskJournal {
     ghost held = { desk_held };
 
     ghost place = { desk_place };
+
+    ghost put_leaves = { DeskPut };
+
+    ghost wipe_leaves = { DeskWiped };
 
     ghost lawful = { elim [
       | Table journal ↦ Prim.search rules
