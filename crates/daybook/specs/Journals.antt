@@ -1,10 +1,10 @@
 -- What the journal of an opened book means, and what its calls leave.
-use Rattle.std.specs.Prelude.{◌≡◌, ◌*◌, replicate}
+use Rattle.std.specs.Prelude.{◌≡◌, ◌*◌, replicate, vec_items}
 use Rattle.entries.specs.declared.journal_kind.JournalKind.{JournalKind}
 use Rattle.entries.specs.declared.journal_kind.JournalKind.TheVariants as kind
 use Rattle.journals.specs.Calls.{Places}
 use Rattle.journals.specs.Journal.{Held, Pair}
-use Rattle.journals.specs.Entries.{EntriesWiped, EntryPut, entries_held, entries_place, places_among}
+use Rattle.journals.specs.Entries.{EntriesWiped, EntryPut, entries_held, entries_place}
 use Rattle.journals.specs.Table.{TablePut, TableWiped, places_in, table_held, table_place}
 use Rattle.journals.specs.declared.entry_journal.Entry.{Entry}
 use Rattle.daybook.specs.declared.journal.DeskJournal.{DeskJournal}
@@ -34,9 +34,9 @@ DeskWiped (Entries before) (Entries after) = EntriesWiped before after
 abbrev pub unused_entry : Entry
 unused_entry = record { participant = 0; month = 0; kwh = 0 }
 
--- a journal of this kind, with the places of the room that it names: twelve numbers for each participant, or so many unused entries
+-- a journal of this kind, with the room that it names: places for twelve numbers of each participant, or so many unused entries
 abbrev pub HasRoom : JournalKind → DeskJournal → Type 0
 HasRoom (kind.Table participants) (Table journal) = table_place journal ≡ places_in (12 * participants)
 HasRoom (kind.Table participants) (Entries journal) = ⊥
 HasRoom (kind.Entries records) (Table journal) = ⊥
-HasRoom (kind.Entries records) (Entries journal) = entries_place journal ≡ places_among (replicate records unused_entry)
+HasRoom (kind.Entries records) (Entries journal) = vec_items journal.entries ≡ replicate records unused_entry

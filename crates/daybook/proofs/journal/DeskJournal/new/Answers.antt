@@ -1,5 +1,4 @@
 use Rattle.std.proofs.Common.{◌≡◌, ◌*◌, ◌∙◌, ap, arith, length}
-use Rattle.journals.specs.Entries.{places_among}
 use Rattle.journals.specs.Table.{places_in}
 use Rattle.daybook.proofs.journal.DeskJournal.new.Goals as goal
 use Rattle.daybook.proofs.journal.DeskJournal.new.Goals.{in-Table+in_ok-numbers-in-Table, in-Entries+in_ok-entries-in-Entries}
@@ -14,5 +13,5 @@ returns c = elim c.match-kind.branch [
       rw (w.in-Table.is, w.result-is) (w.new.ensures.places ∙ ap places_in room)
   | in-Entries+in_ok-entries-in-Entries w ↦
       let room = w.in_ok-entries-in-Entries.ensures.items_if_clones_equal (λ y e. e) in
-      rw (w.in-Entries.is, w.result-is) (w.new-in-Entries.ensures.places ∙ ap places_among room)
+      rw (w.in-Entries.is, w.result-is) (w.new-in-Entries.ensures.run ∙ room)
 ]
