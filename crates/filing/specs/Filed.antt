@@ -114,7 +114,7 @@ abbrev pub seen : {P X E : Type 0} → (P → X) → Result P E → Result X E
 seen view (Ok p) = Ok (view p)
 seen view (Err why) = Err why
 
--- a call that answers r and leaves x gives this
-abbrev pub Leaves : {X : Type 0} → Result X Refusal → Result (Unit {0}) Refusal → X → Type 0
-Leaves wanted (Ok done) x = wanted ≡ Ok x
-Leaves wanted (Err why) x = wanted ≡ Err why
+-- a call that finds one thing, answers, and leaves another gives this; a refusal leaves what it found
+abbrev pub Leaves : {X : Type 0} → Result X Refusal → X → Result (Unit {0}) Refusal → X → Type 0
+Leaves wanted before (Ok done) after = wanted ≡ Ok after
+Leaves wanted before (Err why) after = (wanted ≡ Err why) × (after ≡ before)

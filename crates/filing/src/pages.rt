@@ -43,7 +43,7 @@ impl<T: Template> Pages<T> {
 
     /// Adds the project of a P line.
     fn add(&mut self, line: &[u8; 56]) -> Result<(), Refusal>
-        ensures { Leaves (project_taken T.rules (pricing self.old) line.now) result (pricing self.new) }
+        ensures { Leaves (project_taken T.rules (pricing self.old) line.now) (pricing self.old) result (pricing self.new) }
     {
         let filed = read_project(line)?;
         if self.projects.is_full() {
@@ -55,7 +55,7 @@ impl<T: Template> Pages<T> {
 
     /// Takes a line after the first P line.
     fn take(&mut self, line: Record) -> Result<(), Refusal>
-        ensures { Leaves (by_letter T.rules (pricing self.old) line.entry.letter line.entry.bytes.now) result (pricing self.new) }
+        ensures { Leaves (by_letter T.rules (pricing self.old) line.entry.letter line.entry.bytes.now) (pricing self.old) result (pricing self.new) }
     {
         match line.letter {
             'P' => self.add(line.bytes),

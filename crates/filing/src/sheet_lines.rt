@@ -16,7 +16,7 @@ pub(crate) fn enter_figure<T: Template>(
     sheet: &mut OpenSheet<T>,
     line: &[u8; 56],
 ) -> Result<(), Refusal>
-    ensures { Leaves (figure_taken T.rules sheet.old line.now) result sheet.new }
+    ensures { Leaves (figure_taken T.rules sheet.old line.now) sheet.old result sheet.new }
 {
     let FiledFigure { label, amount } = read_figure(line)?;
     sheet.enter_labelled(label, amount)?;
