@@ -5,7 +5,9 @@ use Rattle.answers.specs.declared.answer.Answer.TheVariants as answer
 use Rattle.entries.specs.Lists.{rates_given}
 use Rattle.entries.specs.declared.entry.Entry.{Entry}
 use Rattle.entries.specs.declared.entry.Entry.TheVariants.{Open, File, Post, Bill, Resettle, Pay, State, Close, Look}
+use Rattle.book.specs.Views.{Leaves}
 use Rattle.journals.specs.Calls.{Places}
+use Rattle.journals.specs.Journal.{Pair}
 use Rattle.rates.specs.Factor.{interest_months}
 use Rattle.rates.specs.Rates.{Rates}
 use Rattle.settlement.specs.declared.refusal.Refusal.{Refusal}
@@ -54,3 +56,15 @@ told (Err why) = answer.Refused why
 -- the entry has this answer, and the book is then as its call leaves it
 abbrev pub Performs : Outcome Answer → Answer → BookView → Type 0
 Performs o answer b = (answer ≡ told o.answer) × (b ≡ o.after)
+
+-- the journal after an entry: after an accepted bill or resettlement as a put leaves it, after an accepted close as a wipe does, and else as it was
+abbrev pub JournalLeft : {J : Type 0} → (J → Pair → J → Type 0) → (J → J → Type 0) → Entry → Result Answer Refusal → J → J → Type 0
+JournalLeft put wipe (Bill r) answer before after = Leaves (λ b a. put b (pair_of r.participant r.month) a) before answer after
+JournalLeft put wipe (Resettle r) answer before after = Leaves (λ b a. put b (pair_of r.participant r.month) a) before answer after
+JournalLeft put wipe (Close list) answer before after = Leaves wipe before answer after
+JournalLeft put wipe (Open year journal) answer before after = after ≡ before
+JournalLeft put wipe (File project requirement) answer before after = after ≡ before
+JournalLeft put wipe (Post forecast) answer before after = after ≡ before
+JournalLeft put wipe Pay answer before after = after ≡ before
+JournalLeft put wipe (State project actual) answer before after = after ≡ before
+JournalLeft put wipe (Look project) answer before after = after ≡ before

@@ -1,8 +1,8 @@
-ghost use Rattle.std.specs.Prelude.{◌≡◌, MatchResult};
-ghost use Rattle.daybook.specs.Entries.{Performs, called, closing};
+ghost use Rattle.std.specs.Prelude.{◌≡◌, IfOk, MatchResult};
+ghost use Rattle.daybook.specs.Entries.{JournalLeft, Performs, called, closing};
 ghost use Rattle.rates.specs.Named.{named_rates};
 ghost use Rattle.settlement.specs.Outcomes.{Gives};
-ghost use Rattle.book.specs.Views.{places, view};
+ghost use Rattle.book.specs.Views.{Leaves, places, view};
 
 use answers::Answer;
 use book::Book;
@@ -14,7 +14,8 @@ use std::alloc::{AllocError, Global};
 
 /// Closes the year by a list.
 fn close<J: Journal>(book: &mut Book<J>, list: &NamedList) -> Result<Answer, Refusal>
-    ensures { Gives (closing (view J.held book.old) (named_rates list.now)) result (view J.held book.new) }
+    ensures outcome { Gives (closing (view J.held book.old) (named_rates list.now)) result (view J.held book.new) }
+    ensures places { Leaves J.wipe_leaves book.old.journal result book.new.journal }
 {
     book.close(list)?;
     Ok(Answer::Closed {
@@ -28,7 +29,8 @@ fn call<J: Journal>(
     book: &mut Book<J>,
     entry: &Entry<'_>,
 ) -> Result<Result<Answer, Refusal>, AllocError>
-    ensures { MatchResult result (λ answer. Gives (called (view J.held book.old) (places J.place book.old) entry.now) answer (view J.held book.new)) (λ no_memory. book.new ≡ book.old) }
+    ensures outcome { MatchResult result (λ answer. Gives (called (view J.held book.old) (places J.place book.old) entry.now) answer (view J.held book.new)) (λ no_memory. book.new ≡ book.old) }
+    ensures places { IfOk result (λ answer. JournalLeft J.put_leaves J.wipe_leaves entry.now answer book.old.journal book.new.journal) }
 {
     Ok(match entry {
         Entry::Open { .. } => Ok(Answer::Unread),
@@ -57,7 +59,8 @@ pub fn perform<J: Journal>(
     book: &mut Book<J>,
     entry: &Entry<'_>,
 ) -> Result<Answer, AllocError>
-    ensures { MatchResult result (λ answer. Performs (called (view J.held book.old) (places J.place book.old) entry.now) answer (view J.held book.new)) (λ no_memory. book.new ≡ book.old) }
+    ensures outcome { MatchResult result (λ answer. Performs (called (view J.held book.old) (places J.place book.old) entry.now) answer (view J.held book.new)) (λ no_memory. book.new ≡ book.old) }
+    ensures places { IfOk result (λ answer. JournalLeft J.put_leaves J.wipe_leaves entry.now (called (view J.held book.old) (places J.place book.old) entry.now).answer book.old.journal book.new.journal) }
 {
     Ok(call(alloc, book, entry)?.unwrap_or_else(Answer::Refused))
 }

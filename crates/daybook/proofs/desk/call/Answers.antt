@@ -11,16 +11,16 @@ use Rattle.book.specs.Views.{view}
 use Rattle.daybook.proofs.Saying.{says, says_only}
 use Rattle.daybook.proofs.desk.call.Goals as goal
 
-pub returns-in-File : goal.returns-in-File
-returns-in-File g c =
+pub returns-in-File-clause-outcome : goal.returns-in-File-clause-outcome
+returns-in-File-clause-outcome g c =
     let b = view g.J.Journal.held c.args.book.now in
     let project : SFits w64 c.in-File.project = search rules in
     let requirement : SFits w64 c.in-File.requirement = search rules in
     let outcome = simp to_z-of_z at c.file.ensures.outcome in
     rw c.in-File.is (says_only answer.Filed (filed b c.in-File.project c.in-File.requirement) (view g.J.Journal.held c.file.new.self) c.file.result c.and.result outcome c.and.ensures)
 
-pub returns-in-Bill : goal.returns-in-Bill
-returns-in-Bill g c =
+pub returns-in-Bill-clause-outcome : goal.returns-in-Bill-clause-outcome
+returns-in-Bill-clause-outcome g c =
     let b = view g.J.Journal.held c.args.book.now in
     let r = c.in-Bill.r in
     let participant : SFits w64 r.participant = search rules in
@@ -29,8 +29,8 @@ returns-in-Bill g c =
     let outcome = simp to_z-of_z at c.bill.ensures.outcome in
     rw c.in-Bill.is (says answer.Charge (billed b (g.J.Journal.place c.args.book.now.journal (pair_of r.participant r.month)) r.participant r.month r.kwh) (view g.J.Journal.held c.bill.new.self) c.bill.result c.map-in-Bill.result outcome c.map-in-Bill.ensures.cases)
 
-pub returns-in-Resettle : goal.returns-in-Resettle
-returns-in-Resettle g c =
+pub returns-in-Resettle-clause-outcome : goal.returns-in-Resettle-clause-outcome
+returns-in-Resettle-clause-outcome g c =
     let b = view g.J.Journal.held c.args.book.now in
     let r = c.in-Resettle.r in
     let participant : SFits w64 r.participant = search rules in
@@ -39,8 +39,8 @@ returns-in-Resettle g c =
     let outcome = simp to_z-of_z at c.resettle.ensures.outcome in
     rw c.in-Resettle.is (says answer.Change (resettled b r.participant r.month r.kwh) (view g.J.Journal.held c.resettle.new.self) c.resettle.result c.map-in-Resettle.result outcome c.map-in-Resettle.ensures.cases)
 
-pub returns-in-State : goal.returns-in-State
-returns-in-State g c =
+pub returns-in-State-clause-outcome : goal.returns-in-State-clause-outcome
+returns-in-State-clause-outcome g c =
     let b = view g.J.Journal.held c.args.book.now in
     let project : SFits w64 c.in-State.project = search rules in
     let actual : SFits w64 c.in-State.actual = search rules in
