@@ -6,9 +6,9 @@ root=$(cd "$(dirname "$0")/.." && pwd)
 work=$(mktemp -d)
 trap 'rm -rf "$work"' EXIT
 mkdir -p "$work/crates/attempt/src"
-cp -r "$root/crates/amounts" "$root/crates/sheets" "$work/crates/"
+cp -r "$root/crates/amounts" "$root/crates/questions" "$root/crates/sheets" "$work/crates/"
 rm -rf "$work"/crates/*/must-fail "$work"/crates/*/out
-printf 'amounts:\nsheets: amounts\nattempt: sheets\n' > "$work/crates.txt"
+printf 'amounts:\nquestions:\nsheets: amounts questions\nattempt: sheets\n' > "$work/crates.txt"
 
 failed=0
 # attempt NAME refused|accepted BODY

@@ -7,6 +7,7 @@ use Rattle.std.specs.Str.{bytes_eq}
 use Rattle.columns.proofs.Laws.{undoes_writing}
 use Rattle.columns.specs.Fields.{after_spaces, reading}
 use Rattle.columns.specs.declared.refusal.Refusal.{Refusal as NumberRefusal}
+use Rattle.questions.specs.Questions.{ask, asked}
 use Rattle.sheets.specs.Attachments.{cc_rules, mm_rules}
 use Rattle.sheets.specs.Figures.{blank as no_figures}
 use Rattle.sheets.specs.Rules.{Rules}
@@ -18,7 +19,7 @@ use Rattle.filing.specs.Fields.{as_field, blank, columns_from, figure_on, label_
 use Rattle.filing.specs.Filed.{Filed, Stage, at, by_letter, entering, figure_taken, from, line_taken, pricing, project_taken, seen}
 use Rattle.filing.specs.Filing.{Attachment, cc as cc_filing, filed, filed_lines, filed_under, filing_of, mm, sheet_filed}
 use Rattle.filing.specs.Lines.{at_line, cut, line_count, lines_of, short_enough, whole, without}
-use Rattle.filing.specs.Outcomes.{then, unless}
+use Rattle.filing.specs.Outcomes.{then}
 use Rattle.filing.specs.Records.{FilingRecord, RecordsAndBytesDetermineEachOther, all_written, f_record, fields_of, letter_of, line_of, number_field, p_record, record_by, record_on, t_record, template_on, text_field}
 use Rattle.filing.proofs.Lines.{whole_is_long}
 use Rattle.columns.proofs.Laws.{spaces_before}
@@ -28,9 +29,9 @@ then_ok : {E X Y : Type 0} (r : Result X E) (next : X → Result Y E) (y : Y) �
 then_ok (Ok x) next y e = (x, refl, e)
 then_ok (Err why) next y e = absurd cc
 
-unless_ok : {E X : Type 0} (b : Bool) (why : E) (r : Result X E) (x : X) → unless b why r ≡ Ok x → (b ≡ true) × (r ≡ Ok x)
-unless_ok true why r x e = (refl, e)
-unless_ok false why r x e = absurd cc
+question_ok : {E X : Type 0} (b : Bool) (why : E) (r : Result X E) (x : X) → asked Err (ask b why ∷ []) r ≡ Ok x → (b ≡ true) × (r ≡ Ok x)
+question_ok true why r x e = (refl, e)
+question_ok false why r x e = absurd cc
 
 -- one of two answers
 either_ok : {E X P : Type 0} (b : Bool) (r s : Result X E) (x : X) → cond b r s ≡ Ok x → (b ≡ true → r ≡ Ok x → P) → (s ≡ Ok x → P) → P
@@ -75,7 +76,7 @@ module _ (line : List ℕ) (long : length line ≡ 56) where
   label_at : (first k : ℕ) (label : List ℕ) → first + k ≤ 56 → label_in (take k (drop first line)) ≡ Ok label → drop first line ≡ text_field k label ++ drop (first + k) line
   label_at first k label h e =
       let text = after_spaces (take k (drop first line)) in
-      let told = (unless_ok (named text) MalformedField (Ok text) label e).1 in
+      let told = (question_ok (named text) MalformedField (Ok text) label e).1 in
       and_rest first k _ (text_back k _ label (wide first k h) (let same : text ≡ label = cc in same))
 
   number_at : (first k : ℕ) (n : ℤ) → first + k ≤ 56 → number_in (take k (drop first line)) ≡ Ok n → drop first line ≡ number_field k n ++ drop (first + k) line
@@ -95,14 +96,14 @@ module _ (line : List ℕ) (long : length line ≡ 56) where
 
   template_held : (name : List ℕ) → get_or line 0 0 ≡ 84 → label_in (columns_from 2 4 line) ≡ Ok name → blank (columns_from 5 56 line) ≡ true → Held line
   template_held name is n b =
-      let read : template_on line ≡ Ok (t_record name) = ap (λ x. then x (λ m. unless (blank (columns_from 5 56 line)) MalformedField (Ok (t_record m)))) n ∙ ap (λ x. unless x MalformedField (Ok (t_record name))) b in
+      let read : template_on line ≡ Ok (t_record name) = ap (λ x. then x (λ m. asked Err (ask (blank (columns_from 5 56 line)) MalformedField ∷ []) (Ok (t_record m)))) n ∙ ap (λ x. asked Err (ask x MalformedField ∷ []) (Ok (t_record name))) b in
       held (t_record name) is read (label_at 1 3 name (omega arith) n ∙ ap (λ x. text_field 3 name ++ x) (blank_from 4 52 refl b))
 
   figure_held : (x : List ℕ × ℤ) → get_or line 0 0 ≡ 70 → figure_on line ≡ Ok x → Held line
   figure_held x is e =
       let l = then_ok (label_in (columns_from 2 4 line)) _ x e in
       let n = then_ok (number_in (columns_from 5 16 line)) _ x l.2 in
-      let b = unless_ok (blank (columns_from 17 56 line)) MalformedField (Ok (l.0, n.0)) x n.2 in
+      let b = question_ok (blank (columns_from 17 56 line)) MalformedField (Ok (l.0, n.0)) x n.2 in
       held (f_record l.0 n.0) is (ap (λ r. then r (λ y. Ok (f_record y.0 y.1))) (e ∙ sym b.1))
       (label_at 1 3 l.0 (omega arith) l.1
       ∙ ap (λ x. text_field 3 l.0 ++ x) (number_at 4 12 n.0 (omega arith) n.1
@@ -114,7 +115,7 @@ module _ (line : List ℕ) (long : length line ≡ 56) where
       let g = then_ok (number_in (columns_from 13 24 line)) _ j n.2 in
       let a = then_ok (number_in (columns_from 25 36 line)) _ j g.2 in
       let d = then_ok (number_in (columns_from 37 48 line)) _ j a.2 in
-      let b = unless_ok (blank (columns_from 49 56 line)) MalformedField (Ok (project_with n.0 g.0 a.0 d.0)) j d.2 in
+      let b = question_ok (blank (columns_from 49 56 line)) MalformedField (Ok (project_with n.0 g.0 a.0 d.0)) j d.2 in
       held (p_record (project_with n.0 g.0 a.0 d.0)) is (ap (λ r. then r (λ k. Ok (p_record k))) (e ∙ sym b.1))
       (number_at 1 11 n.0 (omega arith) n.1
       ∙ ap (λ x. number_field 11 n.0 ++ x) (number_at 12 12 g.0 (omega arith) g.1
@@ -126,7 +127,7 @@ module _ (line : List ℕ) (long : length line ≡ 56) where
 module _ {L : Type 0} (t : Rules L) (line : List ℕ) (long : length line ≡ 56) where
   project_or_refused : (stage next : Stage) (letter : ℕ) → get_or line 0 0 ≡ letter → cond (eqb letter 80) (project_taken t stage line) (Err LetterOutOfPlace) ≡ Ok next → Held line
   project_or_refused stage next letter is e =
-      let o = unless_ok (eqb letter 80) LetterOutOfPlace (project_taken t stage line) next e in
+      let o = question_ok (eqb letter 80) LetterOutOfPlace (project_taken t stage line) next e in
       let p = then_ok (project_on line) _ next o.1 in
       project_held line long p.0 (is ∙ eqb-true letter 80 o.0) p.1
 
@@ -168,9 +169,9 @@ from_held : {L : Type 0} (t : Rules L) (n : ℕ) (stage : Stage) (lines : List (
 from_held t n stage [] v e = ([], refl, refl)
 from_held t n stage (line ∷ lines) v e =
     let taken = then_ok (at n (line_taken t stage line)) _ v e in
-    let asked = unless_ok (whole line) NotALine (by_letter t stage (get_or line 0 0) (take 56 line)) taken.0 (at_ok n _ taken.0 taken.1) in
+    let told = question_ok (whole line) NotALine (by_letter t stage (get_or line 0 0) (take 56 line)) taken.0 (at_ok n _ taken.0 taken.1) in
     one_more line lines
-    (held_line line asked.0 (letter_held t (take 56 line) (fifty_six line asked.0) stage taken.0 (get_or line 0 0) (get_or-take 56 line 0 0 (omega arith)) asked.1))
+    (held_line line told.0 (letter_held t (take 56 line) (fifty_six line told.0) stage taken.0 (get_or line 0 0) (get_or-take 56 line 0 0 (omega arith)) told.1))
     (from_held t (n + 1) taken.0 lines v taken.2)
 
 -- the T line, by the name of its template
@@ -178,7 +179,7 @@ module _ (line : List ℕ) (long : length line ≡ 56) (is : get_or line 0 0 ≡
   sheet_held : {L : Type 0} (t : Rules L) (a : Attachment) (name label : List ℕ) → columns_from 2 4 line ≡ name → label_in name ≡ Ok label → filing_of a (sheet_filed t line lines) ≡ Ok v → Held line × HeldLines lines
   sheet_held t a name label named_so labelled e =
       let f = filing_ok a (sheet_filed t line lines) v e in
-      let b = unless_ok (blank (columns_from 5 56 line)) (at_line 1 MalformedField) (from t 2 (entering no_figures) lines) f.0 f.1 in
+      let b = question_ok (blank (columns_from 5 56 line)) (at_line 1 MalformedField) (from t 2 (entering no_figures) lines) f.0 f.1 in
       (template_held line long label is (ap label_in named_so ∙ labelled) b.0, from_held t 2 (entering no_figures) lines f.0 b.1)
 
   named_held : filed_under line lines ≡ Ok v → Held line × HeldLines lines
@@ -188,14 +189,14 @@ module _ (line : List ℕ) (long : length line ≡ 56) (is : get_or line 0 0 ≡
       either_ok (bytes_eq name (codes " MM")) _ _ v e
       (λ b h. sheet_held mm_rules mm _ (codes "MM") ((bytes_eq-Decides name (codes " MM")).0 b) refl h)
       (λ h.
-      let o = unless_ok (bytes_eq name (codes " CC")) (at_line 1 UnknownTemplate) (filing_of cc_filing (sheet_filed cc_rules line lines)) v h in
+      let o = question_ok (bytes_eq name (codes " CC")) (at_line 1 UnknownTemplate) (filing_of cc_filing (sheet_filed cc_rules line lines)) v h in
       sheet_held cc_rules cc_filing _ (codes "CC") ((bytes_eq-Decides name (codes " CC")).0 o.0) refl o.1)
 
 lines_held : (lines : List (List ℕ)) (v : Attachment × Filed) → filed_lines lines ≡ Ok v → HeldLines lines
 lines_held [] v e = absurd cc
 lines_held (line ∷ lines) v e =
-    let w = unless_ok (whole line) (at_line 1 NotALine) (unless (eqb (get_or line 0 0) 84) (at_line 1 LetterOutOfPlace) (filed_under (take 56 line) lines)) v e in
-    let l = unless_ok (eqb (get_or line 0 0) 84) (at_line 1 LetterOutOfPlace) (filed_under (take 56 line) lines) v w.1 in
+    let w = question_ok (whole line) (at_line 1 NotALine) (asked Err (ask (eqb (get_or line 0 0) 84) (at_line 1 LetterOutOfPlace) ∷ []) (filed_under (take 56 line) lines)) v e in
+    let l = question_ok (eqb (get_or line 0 0) 84) (at_line 1 LetterOutOfPlace) (filed_under (take 56 line) lines) v w.1 in
     let h = named_held (take 56 line) (fifty_six line w.0) (get_or-take 56 line 0 0 (omega arith) ∙ eqb-true _ 84 l.0) lines v l.1 in
     one_more line lines (held_line line w.0 h.0) h.1
 
@@ -212,7 +213,7 @@ lines_rejoined file = cut_rejoined (line_count file) file (omega arith)
 -- what a call answers for an accepted filing
 pub records_and_bytes : {P : Type 0} (view : P → Attachment × Filed) (file : List ℕ) (r : Result P LineRefusal) → seen view r ≡ filed file → IfOk r (λ p. RecordsAndBytesDetermineEachOther file)
 records_and_bytes view file (Ok p) e =
-    let asked = unless_ok (short_enough file) (at_line 1 FileTooLong) (filed_lines (lines_of file)) (view p) (sym e) in
-    let rs = lines_held (lines_of file) (view p) asked.1 in
+    let told = question_ok (short_enough file) (at_line 1 FileTooLong) (filed_lines (lines_of file)) (view p) (sym e) in
+    let rs = lines_held (lines_of file) (view p) told.1 in
     record { records = rs.0; lines_read_as_the_records = rs.1; records_are_written_as_the_file = rs.2 ∙ lines_rejoined file }
 records_and_bytes view file (Err why) e = tt

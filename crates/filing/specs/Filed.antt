@@ -1,7 +1,7 @@
 -- What the lines of a filing give.
 use Rattle.std.specs.Prelude.{◌≡◌, ℕ, ◌+◌, cond, List, [], ◌∷◌, ◌++◌, length, take, ℤ, pos, Ok, Err, Result, ◌==◌, nat_lt, slice_index}
+use Rattle.questions.specs.Questions.{ask, asked, within}
 use Rattle.sheets.specs.Factors.{hundredths}
-use Rattle.sheets.specs.Outcomes.{within}
 use Rattle.sheets.specs.Pricing.{priced}
 use Rattle.sheets.specs.Rules.{Rules}
 use Rattle.sheets.specs.Sheets.{Finish, entered_labelled, finish_outcome}
@@ -15,7 +15,7 @@ use Rattle.filing.specs.declared.refusal.Refusal.{Refusal}
 use Rattle.filing.specs.declared.refusal.Refusal.TheVariants.{ProjectNumberOutOfRange, NotALine, LetterOutOfPlace, TooManyProjects, NoProject, Sheet}
 use Rattle.filing.specs.Fields.{figure_on, project_on}
 use Rattle.filing.specs.Lines.{at_line, whole}
-use Rattle.filing.specs.Outcomes.{then, unless}
+use Rattle.filing.specs.Outcomes.{then}
 use Rattle.filing.specs.Rows.{Row}
 
 -- the same answer, with the sheet's refusal as the filing's
@@ -69,7 +69,7 @@ rows_at (pricing p) = p.rows
 -- a project number is 1 to 99,999,999
 abbrev pub priced_row : {L : Type 0} → Rules L → Factors → FiledProject → Result Row Refusal
 priced_row t p j =
-    unless (within (pos 1) (pos 99999999) j.number) ProjectNumberOutOfRange
+    asked Err (ask (within (pos 1) (pos 99999999) j.number) ProjectNumberOutOfRange ∷ [])
     (then (by_sheet (priced hundredths p t.om_base j.project)) (λ columns.
     Ok (record { number = j.number; project = j.project; columns = columns })))
 
@@ -77,7 +77,7 @@ priced_row t p j =
 abbrev pub project_taken : {L : Type 0} → Rules L → Stage → List ℕ → Result Stage Refusal
 project_taken t stage line =
     then (project_on line) (λ j.
-    unless (nat_lt (length (rows_at stage)) 64) TooManyProjects
+    asked Err (ask (nat_lt (length (rows_at stage)) 64) TooManyProjects ∷ [])
     (then (page_one_at t stage) (λ w.
     then (priced_row t w.factors j) (λ row.
     Ok (pricing (filed_as w.figures w.factors (rows_at stage ++ (row ∷ []))))))))
@@ -92,7 +92,7 @@ by_letter t (pricing p) letter line =
 
 -- a line is whole, and is taken by its letter
 abbrev pub line_taken : {L : Type 0} → Rules L → Stage → List ℕ → Result Stage Refusal
-line_taken t stage line = unless (whole line) NotALine (by_letter t stage (slice_index line 0) (take 56 line))
+line_taken t stage line = asked Err (ask (whole line) NotALine ∷ []) (by_letter t stage (slice_index line 0) (take 56 line))
 
 -- the refusal is about this line
 abbrev pub at : {X : Type 0} → ℕ → Result X Refusal → Result X LineRefusal

@@ -1,6 +1,7 @@
 -- A whole filing: the T line, and the lines after it by the template's rules.
 use Rattle.std.specs.Prelude.{ℕ, cond, List, [], ◌∷◌, take, Err, codes, Result, ◌==◌, slice_index}
 use Rattle.std.specs.Str.{bytes_eq}
+use Rattle.questions.specs.Questions.{ask, asked}
 use Rattle.sheets.specs.Attachments.{cc_rules, mm_rules}
 use Rattle.sheets.specs.Figures.{blank as no_figures}
 use Rattle.sheets.specs.Rules.{Rules}
@@ -11,7 +12,6 @@ use Rattle.filing.specs.declared.refusal.Refusal.TheVariants.{FileTooLong, Lette
 use Rattle.filing.specs.Fields.{blank, columns_from}
 use Rattle.filing.specs.Filed.{Filed, entering, from, seen}
 use Rattle.filing.specs.Lines.{at_line, lines_of, short_enough, whole}
-use Rattle.filing.specs.Outcomes.{unless}
 use Rattle.filing.specs.Rows.{Row}
 
 -- the templates
@@ -21,7 +21,7 @@ pub data Attachment : Type 0 where
 
 -- a filing of a template: spaces after its name, and then F and P lines from line 2 on
 abbrev pub sheet_filed : {L : Type 0} → Rules L → List ℕ → List (List ℕ) → Result Filed LineRefusal
-sheet_filed t line lines = unless (blank (columns_from 5 56 line)) (at_line 1 MalformedField) (from t 2 (entering no_figures) lines)
+sheet_filed t line lines = asked Err (ask (blank (columns_from 5 56 line)) (at_line 1 MalformedField) ∷ []) (from t 2 (entering no_figures) lines)
 
 -- what is filed, with its template
 abbrev pub filing_of : Attachment → Result Filed LineRefusal → Result (Attachment × Filed) LineRefusal
@@ -38,13 +38,15 @@ filed_under line lines =
 abbrev pub filed_lines : List (List ℕ) → Result (Attachment × Filed) LineRefusal
 filed_lines [] = Err (at_line 1 LetterOutOfPlace)
 filed_lines (line ∷ lines) =
-    unless (whole line) (at_line 1 NotALine)
-    (unless (slice_index line 0 == 84) (at_line 1 LetterOutOfPlace)
-    (filed_under (take 56 line) lines))
+    asked Err
+    (ask (whole line) (at_line 1 NotALine)
+    ∷ ask (slice_index line 0 == 84) (at_line 1 LetterOutOfPlace)
+    ∷ [])
+    (filed_under (take 56 line) lines)
 
 -- what a file gives
 abbrev pub filed : List ℕ → Result (Attachment × Filed) LineRefusal
-filed file = unless (short_enough file) (at_line 1 FileTooLong) (filed_lines (lines_of file))
+filed file = asked Err (ask (short_enough file) (at_line 1 FileTooLong) ∷ []) (filed_lines (lines_of file))
 
 -- what is seen of a filing
 abbrev pub view : Filing → Attachment × Filed

@@ -1,12 +1,13 @@
 -- The records of a filing, and the line that each is written as.
 use Rattle.std.specs.Prelude.{◌≡◌, ℕ, ◌-◌, cond, List, [], ◌∷◌, ◌++◌, map, length, take, replicate, ℤ, Ok, Err, Result, ◌==◌, slice_index}
 use Rattle.columns.specs.Fields.{written}
+use Rattle.questions.specs.Questions.{ask, asked}
 use Rattle.filing.specs.declared.fields.FiledProject.{FiledProject}
 use Rattle.filing.specs.declared.refusal.Refusal.{Refusal}
 use Rattle.filing.specs.declared.refusal.Refusal.TheVariants.{LetterOutOfPlace, MalformedField}
 use Rattle.filing.specs.Fields.{blank, columns_from, figure_on, label_in, project_on}
 use Rattle.filing.specs.Lines.{lines_of}
-use Rattle.filing.specs.Outcomes.{then, unless}
+use Rattle.filing.specs.Outcomes.{then}
 
 -- a T record has the template's name, an F record a label and an amount, a P record a project
 pub data FilingRecord : Type 0 where
@@ -46,7 +47,7 @@ line_of r = letter_of r ∷ (fields_of r ++ (10 ∷ []))
 abbrev pub template_on : List ℕ → Result FilingRecord Refusal
 template_on line =
     then (label_in (columns_from 2 4 line)) (λ name.
-    unless (blank (columns_from 5 56 line)) MalformedField
+    asked Err (ask (blank (columns_from 5 56 line)) MalformedField ∷ [])
     (Ok (t_record name)))
 
 -- a line read as a record, by its letter

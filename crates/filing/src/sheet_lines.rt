@@ -1,5 +1,5 @@
 ghost use Rattle.std.specs.Prelude.{◌≡◌, pos};
-ghost use Rattle.sheets.specs.Outcomes.{within as is_within};
+ghost use Rattle.questions.specs.Questions.{within as is_within};
 ghost use Rattle.filing.specs.Filed.{Leaves, entering, figure_taken, page_one_at, priced_row, seen};
 ghost use Rattle.filing.specs.Rows.{row_of};
 

@@ -3,11 +3,11 @@ use Rattle.std.proofs.Common.{◌≡◌, ℕ, ◌≤◌, Bool, true, false, ◌&
 use lib.Signed.{le_z}
 use Rattle.std.proofs.lemmas.Int.{ints}
 use Rattle.std.proofs.lemmas.Bool.{and_parts}
+use Rattle.questions.specs.Questions.{within}
 use Rattle.sheets.specs.declared.elements.Elements.{Elements}
 use Rattle.sheets.specs.declared.factors.Factors.{Factors}
 use Rattle.sheets.specs.declared.pricing.Project.{Project}
 use Rattle.sheets.specs.Factors.{above_zero, based, bases_above_zero, factor_fits, factors_fit, hundredths, om_base_above_zero, om_factor_fits}
-use Rattle.sheets.specs.Outcomes.{within}
 use Rattle.sheets.specs.Pricing.{ProjectFits, project_fits}
 
 pub above_told : (x : ℤ) → above_zero x ≡ true → pos 0 <ℤ x

@@ -1,5 +1,6 @@
 -- The two templates: Attachment MM and Attachment CC.
 use Rattle.std.specs.Prelude.{◌≡◌, ℕ, true, List, [], ◌∷◌, ℤ, pos, ◌+ℤ◌, ◌-ℤ◌, Some, None, codes}
+use Rattle.questions.specs.Questions.{within}
 use Rattle.sheets.specs.declared.attachment_cc.CcLine.{CcLine}
 use Rattle.sheets.specs.declared.attachment_cc.CcLine.TheVariants as cc
 use Rattle.sheets.specs.declared.attachment_mm.MmLine.{MmLine}
@@ -12,7 +13,6 @@ use Rattle.sheets.specs.declared.figures.Figure.{Figure}
 use Rattle.sheets.specs.declared.figures.Figure.TheVariants as figure
 use Rattle.sheets.specs.declared.figures.Figures.{Figures}
 use Rattle.sheets.specs.Figures.{amount_of}
-use Rattle.sheets.specs.Outcomes.{within}
 use Rattle.sheets.specs.Rules.{Rules}
 
 -- what is divided by gross plant, of the O&M that counts there and the plant

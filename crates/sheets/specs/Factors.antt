@@ -1,7 +1,8 @@
 -- Page 1 worked out: the factors, or the first question that is answered no.
-use Rattle.std.specs.Prelude.{ℕ, ◌*◌, Bool, true, ◌&&◌, [], ◌∷◌, ℤ, pos, ◌*ℤ◌, neg_ℤ, Some, None, Ok, Option, Result, int_lt, unsigned_abs}
+use Rattle.std.specs.Prelude.{ℕ, ◌*◌, Bool, true, ◌&&◌, [], ◌∷◌, ℤ, pos, ◌*ℤ◌, neg_ℤ, Some, None, Ok, Err, Option, Result, int_lt, unsigned_abs}
 use Rattle.std.specs.Option.{option_map}
 use Rattle.amounts.specs.Rounding.{rounded}
+use Rattle.questions.specs.Questions.{ask, asked, within}
 use Rattle.sheets.specs.declared.elements.Elements.{Elements}
 use Rattle.sheets.specs.declared.elements.ExpenseElements.{ExpenseElements}
 use Rattle.sheets.specs.declared.elements.ReturnElements.{ReturnElements}
@@ -12,7 +13,6 @@ use Rattle.sheets.specs.declared.factors.ReturnFactors.{ReturnFactors}
 use Rattle.sheets.specs.declared.refusal.Refusal.{Refusal}
 use Rattle.sheets.specs.declared.refusal.Refusal.TheVariants.{BaseNotAboveZero, AdjustedOmOutOfRange, FactorOutOfRange}
 use Rattle.sheets.specs.Elements.{total_expense, total_return}
-use Rattle.sheets.specs.Outcomes.{ask, asked, within}
 
 -- the scale of a factor today: 100 percent is 10,000 hundredths of a percent
 abbrev pub hundredths : ℕ
@@ -64,7 +64,7 @@ bases_above_zero e = om_base_above_zero e.transmission_om && (above_zero e.expen
 
 -- what is worked out where the bases are above 0
 abbrev pub based : {A : Type 0} → Bool → A → Result A Refusal
-based b x = asked (ask b BaseNotAboveZero ∷ []) (Ok x)
+based b x = asked Err (ask b BaseNotAboveZero ∷ []) (Ok x)
 
 -- 1,000 percent either way
 abbrev pub factor_fits : ℕ → ℤ → Bool
@@ -81,7 +81,7 @@ factors_fit scale p = om_factor_fits scale p.transmission_om && (factor_fits sca
 -- page 1 of cost elements, and whether line 3d is from 0 to line 3
 abbrev pub page_one : ℕ → Elements → Bool → Result Factors Refusal
 page_one scale e adjusted_om_fits =
-    asked
+    asked Err
     (ask (bases_above_zero e) BaseNotAboveZero
     ∷ ask adjusted_om_fits AdjustedOmOutOfRange
     ∷ ask (factors_fit scale (factors_of scale e)) FactorOutOfRange

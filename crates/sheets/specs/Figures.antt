@@ -1,9 +1,9 @@
 -- The figures of page 1 as entered.
 use Rattle.std.specs.Prelude.{ℕ, ◌≤◌, Bool, cond, ℤ, pos, negsuc, Some, None, Option, ◌==◌, unsigned_abs}
+use Rattle.questions.specs.Questions.{within}
 use Rattle.sheets.specs.declared.figures.Figure.{Figure}
 use Rattle.sheets.specs.declared.figures.Figure.TheVariants.{GrossPlant, AccumulatedDepreciation, NetPlant, TotalOm, TransmissionOm, LseExpenses, Account565, GeneralDepreciation, OtherTaxes, IncomeTaxes, ReturnOnRateBase}
 use Rattle.sheets.specs.declared.figures.Figures.{Figures}
-use Rattle.sheets.specs.Outcomes.{within}
 
 -- the amount entered for a figure, if any
 abbrev pub figure_in : Figure → Figures → Option ℤ

@@ -1,5 +1,4 @@
 pub mod Refusals
-pub mod Outcomes
 pub mod Figures
 pub mod Elements
 pub mod Rules

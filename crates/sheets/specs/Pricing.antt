@@ -1,12 +1,12 @@
 -- The columns of a project on page 2.
-use Rattle.std.specs.Prelude.{ℕ, ◌≤◌, Bool, ◌&&◌, [], ◌∷◌, ℤ, pos, ◌+ℤ◌, ◌-ℤ◌, ◌*ℤ◌, ◌≤ℤ◌, Some, None, Ok, Option, Result, unsigned_abs}
+use Rattle.std.specs.Prelude.{ℕ, ◌≤◌, Bool, ◌&&◌, [], ◌∷◌, ℤ, pos, ◌+ℤ◌, ◌-ℤ◌, ◌*ℤ◌, ◌≤ℤ◌, Some, None, Ok, Err, Option, Result, unsigned_abs}
 use Rattle.amounts.specs.Rounding.{rounded}
+use Rattle.questions.specs.Questions.{ask, asked, within}
 use Rattle.sheets.specs.declared.factors.Factors.{Factors}
 use Rattle.sheets.specs.declared.pricing.Columns.{Columns}
 use Rattle.sheets.specs.declared.pricing.Project.{Project}
 use Rattle.sheets.specs.declared.refusal.Refusal.{Refusal}
 use Rattle.sheets.specs.declared.refusal.Refusal.TheVariants.{ProjectOutOfRange, RequirementOutOfRange}
-use Rattle.sheets.specs.Outcomes.{ask, asked, within}
 
 -- an amount times a factor of this scale, in whole dollars
 abbrev pub charge : ℕ → ℤ → ℤ → ℤ
@@ -54,7 +54,7 @@ pub record ProjectFits (j : Project) : Type 0 where
 -- pricing a project on factors of this scale
 abbrev pub priced : ℕ → Factors → (Project → ℤ) → Project → Result Columns Refusal
 priced scale p om_base j =
-    asked
+    asked Err
     (ask (project_fits j) ProjectOutOfRange
     ∷ ask (within (pos 0) (pos 100000000) (columns_of scale p om_base j).annual_revenue_requirement) RequirementOutOfRange
     ∷ [])

@@ -1,9 +1,9 @@
 ghost use Rattle.std.specs.Prelude.{◌≡◌, ◌≤◌, true, pos, IfOk, unsigned_abs};
 ghost use Rattle.std.specs.NonZero.{non_zero_u64_get};
+ghost use Rattle.questions.specs.Questions.{within};
 ghost use Rattle.sheets.specs.Elements.{Small};
 ghost use Rattle.sheets.specs.Factors.{factors_fit, hundredths};
 ghost use Rattle.sheets.specs.Figures.{figure_in};
-ghost use Rattle.sheets.specs.Outcomes.{within};
 ghost use Rattle.sheets.specs.Tariff.{PageTwoFollows};
 ghost use Rattle.sheets.specs.Pricing.{ColumnsInRange, ProjectFits, charge, columns_of, om_charge, priced, project_fits};
 

@@ -9,7 +9,7 @@ use Rattle.sheets.specs.Sheets.{Entry, entered_at, refused}
 use Rattle.filing.proofs.sheet_lines.enter_figure.Goals as goal
 
 -- what is entered or refused, refused
-kept : (fits : Bool) (f g : Figures) (why : Refusal) (e : Entry) → e ≡ cond fits (record { answer = Ok tt; after = g }) (refused AmountOutOfRange f) → Err why ≡ e.answer → e.after ≡ f
+kept : (fits : Bool) (f g : Figures) (why : Refusal) (e : Entry) → e ≡ cond fits (record { answer = Ok tt; after = g }) (refused f AmountOutOfRange) → Err why ≡ e.answer → e.after ≡ f
 kept true f g why e is h = absurd cc
 kept false f g why e is h = cc
 
