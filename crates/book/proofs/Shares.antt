@@ -6,7 +6,8 @@ use Rattle.std.proofs.Math.Nat.{div-zero}
 use Rattle.amounts.proofs.Laws.{rounds_down}
 use Rattle.amounts.proofs.Products.{product_within, times_mono}
 use Rattle.amounts.specs.Rounding.{rounded_down}
-use Rattle.settlement.specs.Outcomes.{in_dollars, in_money, within}
+use Rattle.questions.specs.Questions.{within}
+use Rattle.settlement.specs.Outcomes.{in_dollars, in_money}
 use Rattle.settlement.specs.Rules.{share, unsigned}
 
 -- a total of nothing gives nothing

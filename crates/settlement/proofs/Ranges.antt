@@ -4,7 +4,7 @@ use lib.Signed.{le_z}
 use Rattle.std.proofs.lemmas.Bool.{and_parts}
 use Rattle.std.proofs.lemmas.Bool.Decides.{Decides-int_eq}
 use Rattle.std.specs.Ordering.{int_eq}
-use Rattle.settlement.specs.Outcomes.{within}
+use Rattle.questions.specs.Questions.{within}
 
 le_from : (x y : ℤ) → le_z x y ≡ true → x ≤ℤ y
 le_from x y e = record { le = rw e tt }

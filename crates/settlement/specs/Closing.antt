@@ -3,12 +3,14 @@ use Rattle.std.specs.Prelude.{ℕ, ◌+◌, Bool, List, [], ◌∷◌, map, ℤ,
 use Rattle.std.specs.Option.{unwrap_or}
 use Rattle.std.specs.Ordering.{int_eq}
 use Rattle.std.specs.List.{list_all}
+use Rattle.questions.specs.Questions.{Question, ask, asked, within}
+use Rattle.settlement.specs.declared.refusal.Refusal.{Refusal}
 use Rattle.settlement.specs.declared.refusal.Refusal.TheVariants.{NotPosted, NotStated, NotPaid, LastYear, RateMissing, TrueUpOutOfRange}
 use Rattle.settlement.specs.declared.state.State.TheVariants.{Draft}
 use Rattle.settlement.specs.Lists.{Lists, terms_at, terms_of}
 use Rattle.settlement.specs.Rules.{Figures, Terms, figures, settled}
 use Rattle.settlement.specs.Books.{BookView, RowView, is_posted, nothing_filed, nothing_held, till, total_of, with_account, with_filed, with_held, with_money, with_paid, with_rows, with_state, with_year}
-use Rattle.settlement.specs.Outcomes.{Outcome, Question, ask, asked, done, within}
+use Rattle.settlement.specs.Outcomes.{Outcome, done, refused}
 use Rattle.settlement.specs.Paying.{share_of}
 
 -- a row's figures: an actual that is not stated counts as 0, but 16 has asked for it
@@ -32,7 +34,7 @@ abbrev pub last_closing_year : ℕ
 last_closing_year = 65534
 
 -- what a close asks, in this order
-abbrev pub close_questions : ℕ → BookView → Lists → List Question
+abbrev pub close_questions : ℕ → BookView → Lists → List (Question Refusal)
 close_questions months b lists =
     ask (is_posted b.state) NotPosted  -- 9
     ∷ ask (list_all is_stated b.rows) NotStated  -- 16
@@ -52,4 +54,4 @@ closed_book work b = with_year (b.year + 1) (with_state Draft (with_money (till 
 
 -- close: the figures by the rates of so many months, and the closing with them
 abbrev pub closed : ℕ → BookView → Lists → Outcome (Unit {0})
-closed months b lists = asked b (close_questions months b lists) (done tt (closed_book (figures_of (terms_at months lists b.year)) b))
+closed months b lists = asked (refused b) (close_questions months b lists) (done tt (closed_book (figures_of (terms_at months lists b.year)) b))

@@ -1,12 +1,14 @@
 -- The calls on a draft: opening a book, filing requirements and posting the usage rate. The number of each question stands beside it.
 use Rattle.std.specs.Prelude.{ℕ, Bool, ◌&&◌, ◌||◌, List, [], ◌∷◌, length, ℤ, pos, is_some, Some, nat_le, nat_lt}
 use Rattle.std.specs.List.{list_all}
+use Rattle.questions.specs.Questions.{Question, ask, asked, within}
 use Rattle.settlement.specs.declared.account.Account.{Account}
+use Rattle.settlement.specs.declared.refusal.Refusal.{Refusal}
 use Rattle.settlement.specs.declared.refusal.Refusal.TheVariants.{ProjectNumberOutOfRange, NotDraft, NoRoomForARow, RequirementOutOfRange, NotFiled, ForecastOutOfRange, UsageRateOutOfRange}
 use Rattle.settlement.specs.declared.state.State.TheVariants.{Draft, Posted}
 use Rattle.settlement.specs.Rules.{column_16, rate_scale, unsigned, usage_rate}
 use Rattle.settlement.specs.Books.{BookView, RowView, has_row, is_draft, nothing_held, on_row, row_on, total_of, with_filed, with_requirement, with_row_for, with_rows, with_state}
-use Rattle.settlement.specs.Outcomes.{Outcome, Question, ask, asked, done, in_dollars, is_project, within}
+use Rattle.settlement.specs.Outcomes.{Outcome, done, in_dollars, is_project, refused}
 
 -- open: a draft with no rows and no money, and a journal that holds nothing
 abbrev pub opened : ℕ → BookView
@@ -24,7 +26,7 @@ abbrev pub may_file : ℤ → Account → Bool
 may_file requirement account = in_dollars requirement && in_dollars (column_16 (Some requirement) account)
 
 -- what filing asks, in this order
-abbrev pub file_questions : BookView → ℤ → ℤ → List Question
+abbrev pub file_questions : BookView → ℤ → ℤ → List (Question Refusal)
 file_questions b project requirement =
     ask (is_project project) ProjectNumberOutOfRange  -- 1
     ∷ ask (is_draft b.state) NotDraft  -- 2
@@ -38,7 +40,7 @@ filed_book b project requirement = with_rows (on_row project (with_filed (with_r
 
 -- file: the requirement is the project's for this year
 abbrev pub filed : BookView → ℤ → ℤ → Outcome (Unit {0})
-filed b project requirement = asked b (file_questions b project requirement) (done tt (filed_book b (unsigned project) requirement))
+filed b project requirement = asked (refused b) (file_questions b project requirement) (done tt (filed_book b (unsigned project) requirement))
 
 -- there are rows, and each is filed this year
 abbrev pub all_filed : List RowView → Bool
@@ -57,7 +59,7 @@ abbrev pub rate_for : BookView → ℤ → ℤ
 rate_for b forecast = usage_rate rate_scale (total_of b.rows) (unsigned forecast)
 
 -- what posting asks, in this order
-abbrev pub post_questions : BookView → ℤ → List Question
+abbrev pub post_questions : BookView → ℤ → List (Question Refusal)
 post_questions b forecast =
     ask (is_draft b.state) NotDraft  -- 2
     ∷ ask (all_filed b.rows) NotFiled  -- 5
@@ -67,4 +69,4 @@ post_questions b forecast =
 
 -- post: the usage rate is the answer, and the year is posted
 abbrev pub posted : BookView → ℤ → Outcome ℤ
-posted b forecast = asked b (post_questions b forecast) (done (rate_for b forecast) (with_state (Posted (rate_for b forecast)) b))
+posted b forecast = asked (refused b) (post_questions b forecast) (done (rate_for b forecast) (with_state (Posted (rate_for b forecast)) b))

@@ -1,12 +1,14 @@
 -- Looking at a book and at a project's row.
 use Rattle.std.specs.Prelude.{ℕ, List, [], ◌∷◌, length, ℤ, Option, slice_get}
 use Rattle.std.specs.Option.{option_map}
+use Rattle.questions.specs.Questions.{Question, ask, asked}
+use Rattle.settlement.specs.declared.refusal.Refusal.{Refusal}
 use Rattle.settlement.specs.declared.refusal.Refusal.TheVariants.{ProjectNumberOutOfRange, NoRow}
 use Rattle.settlement.specs.declared.row_answer.RowAnswer.{RowAnswer}
 use Rattle.settlement.specs.declared.standing.Standing.{Standing}
 use Rattle.settlement.specs.Rules.{unsigned}
 use Rattle.settlement.specs.Books.{BookView, RowView, has_row, row_on, till}
-use Rattle.settlement.specs.Outcomes.{Outcome, Question, ask, asked, done, is_project}
+use Rattle.settlement.specs.Outcomes.{Outcome, done, is_project, refused}
 
 -- all that a row has
 abbrev pub answer_of : RowView → RowAnswer
@@ -29,7 +31,7 @@ abbrev pub row_at : BookView → ℕ → Option RowAnswer
 row_at b position = option_map answer_of (slice_get b.rows position)
 
 -- what looking asks, in this order
-abbrev pub look_questions : BookView → ℤ → List Question
+abbrev pub look_questions : BookView → ℤ → List (Question Refusal)
 look_questions b project =
     ask (is_project project) ProjectNumberOutOfRange  -- 1
     ∷ ask (has_row (unsigned project) b.rows) NoRow  -- 14
@@ -37,4 +39,4 @@ look_questions b project =
 
 -- look: a project's row is the answer
 abbrev pub looked : BookView → ℤ → Outcome RowAnswer
-looked b project = asked b (look_questions b project) (done (answer_of (row_on (unsigned project) b.rows)) b)
+looked b project = asked (refused b) (look_questions b project) (done (answer_of (row_on (unsigned project) b.rows)) b)

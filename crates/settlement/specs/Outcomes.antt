@@ -1,5 +1,6 @@
--- What a call gives: the questions before it, its answer, and the book after it.
-use Rattle.std.specs.Prelude.{◌≡◌, Bool, cond, ◌&&◌, List, [], ◌∷◌, ℤ, pos, Ok, Err, Result, int_le}
+-- What a call gives: its answer, and the book after it.
+use Rattle.std.specs.Prelude.{◌≡◌, Bool, ℤ, pos, Ok, Err, Result}
+use Rattle.questions.specs.Questions.{within}
 use Rattle.settlement.specs.declared.refusal.Refusal.{Refusal}
 use Rattle.settlement.specs.Books.{BookView}
 
@@ -16,25 +17,8 @@ abbrev pub done : {A : Type 0} → A → BookView → Outcome A
 done x b = record { answer = Ok x; after = b }
 
 -- a refusal changes nothing
-abbrev pub refused : {A : Type 0} → Refusal → BookView → Outcome A
-refused why b = record { answer = Err why; after = b }
-
--- a question, with the refusal where its answer is no
-pub record Question : Type 0 where
-  pub holds : Bool
-  pub otherwise : Refusal
-
-abbrev pub ask : Bool → Refusal → Question
-ask b why = record { holds = b; otherwise = why }
-
--- the questions in their order: the first "no" refuses
-abbrev pub asked : {A : Type 0} → BookView → List Question → Outcome A → Outcome A
-asked b [] o = o
-asked b (q ∷ qs) o = cond q.holds (asked b qs o) (refused q.otherwise b)
-
--- low ≤ x ≤ high
-abbrev pub within : ℤ → ℤ → ℤ → Bool
-within low high x = int_le low x && int_le x high
+abbrev pub refused : {A : Type 0} → BookView → Refusal → Outcome A
+refused b why = record { answer = Err why; after = b }
 
 -- a project number
 abbrev pub is_project : ℤ → Bool

@@ -49,6 +49,6 @@ pub record SettledCases : Type 0 where
   pub half_a_dollar_below_settles_away_from_zero : (true_up (neg_ℤ (pos 50)) ≡ neg_ℤ (pos 1)) × (left_over (neg_ℤ (pos 50)) ≡ pos 50)
   -- with -27,825 due now, a requirement may be 27,825 and not less
   pub requirement_of_27825_is_filed : filed refund_due (pos 7) (pos 27825) ≡ done tt (refund_filed (pos 27825))
-  pub requirement_of_27824_is_refused : filed refund_due (pos 7) (pos 27824) ≡ refused RequirementOutOfRange refund_due
+  pub requirement_of_27824_is_refused : filed refund_due (pos 7) (pos 27824) ≡ refused refund_due RequirementOutOfRange
   -- a run of three years
   pub three_years_go_as_worked : ThreeYearsRun
