@@ -96,7 +96,8 @@ impl fmt::Display for Refusal {
             Refusal::NotALine => "a line has 56 bytes and then a newline",
             Refusal::LetterOutOfPlace => "a T line comes first, then F lines, then P lines",
             Refusal::UnknownTemplate => "columns 2-4 of the T line hold MM or CC",
-            Refusal::MalformedField => "a field is empty, is no number or ends before its last column, or something stands beside the fields",
+            Refusal::MalformedField =>
+                "a field is empty, is no number or ends before its last column, or something stands beside the fields",
             Refusal::TooManyProjects => "a filing has at most 64 projects",
             Refusal::NoProject => "a filing has at least one project",
             Refusal::Sheet(refusal) => return refusal.fmt(f),
