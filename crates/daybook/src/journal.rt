@@ -1,7 +1,7 @@
 ghost use Rattle.std.specs.Prelude.{IfOk};
 ghost use Rattle.daybook.specs.Journals.{DeskPut, DeskWiped, HasRoom, desk_held, desk_place};
 ghost use Rattle.daybook.specs.declared.journal.DeskJournal.TheVariants.{Table, Entries};
-ghost use Rattle.journals.specs.EntryLaws.{entries_lawful};
+ghost use Rattle.journals.specs.EntryLaws.{entries_held_within_limit_at_places_in_range};
 ghost use Rattle.std.proofs.Common.{rules};
 
 use entries::JournalKind;
@@ -42,9 +42,9 @@ impl Journal for DeskJournal {
 
     ghost wipe_leaves = { DeskWiped };
 
-    ghost lawful = { elim [
+    ghost held_within_limit_at_places_in_range = { elim [
       | Table journal ↦ Prim.search rules
-      | Entries journal ↦ entries_lawful journal.entries.items
+      | Entries journal ↦ entries_held_within_limit_at_places_in_range journal.entries.items
     ] };
 
     fn look(&self, participant: u32, month: u32) -> Option<u64> {

@@ -9,7 +9,7 @@ abbrev pub Places : Type 0
 Places = Pair → Bool
 
 -- the laws of every journal
-pub record Lawful (held : Held) (place : Places) : Type 0 where
+pub record HeldWithinLimitAtPlacesInRange (held : Held) (place : Places) : Type 0 where
   pub held_pair_has_a_place : (q : Pair) (kwh : ℕ) → held q ≡ Some kwh → IsTrue (place q)
   pub held_number_is_at_most_the_limit : (q : Pair) (kwh : ℕ) → held q ≡ Some kwh → IsTrue (nat_le kwh most)
   pub pair_out_of_range_has_no_place : (q : Pair) → IsTrue (place q) → IsTrue (in_range q)

@@ -4,7 +4,7 @@ use Rattle.std.proofs.lemmas.Bool.{and_parts, cases_Bool, eqb-true, or_cases}
 use Rattle.std.proofs.lemmas.Option.{same_Some, none-some}
 use Rattle.journals.specs.Journal.{most, Pair, in_range, same_pair}
 use Rattle.journals.specs.Entries.{pair_of, used, is_of, held_among, unused_among, places_among}
-use Rattle.journals.specs.Calls.{Lawful}
+use Rattle.journals.specs.Calls.{HeldWithinLimitAtPlacesInRange}
 use Rattle.journals.specs.declared.entry_journal.Entry.{Entry}
 
 pub same_pairs : (p q : Pair) → same_pair p q ≡ true → p ≡ q
@@ -36,8 +36,8 @@ place_in_range entries q placed = ⊎_elim
     (or_cases (is_some (held_among entries q)) (in_range q && nat_lt 0 (unused_among entries)) placed)
 
 -- the laws that every journal keeps
-pub entries_lawful : (entries : List Entry) → Lawful (held_among entries) (places_among entries)
-entries_lawful entries = record {
+pub entries_held_within_limit_at_places_in_range : (entries : List Entry) → HeldWithinLimitAtPlacesInRange (held_among entries) (places_among entries)
+entries_held_within_limit_at_places_in_range entries = record {
   held_pair_has_a_place = λ q kwh held. rw held;
   held_number_is_at_most_the_limit = λ q kwh held. (held_fits entries q kwh held).1;
   pair_out_of_range_has_no_place = place_in_range entries;

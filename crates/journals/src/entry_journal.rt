@@ -1,7 +1,7 @@
 ghost use Rattle.std.specs.Prelude.{◌≡◌, vec_items};
 ghost use Rattle.journals.specs.Entries.{used, unused, is_of, held_among, places_among, spot_among, SpotFor, entries_held, entries_place, EntryPut, EntriesWiped};
 ghost use Rattle.std.specs.List.{position};
-ghost use Rattle.journals.specs.EntryLaws.{entries_lawful};
+ghost use Rattle.journals.specs.EntryLaws.{entries_held_within_limit_at_places_in_range};
 
 use crate::journal::{Journal, MOST_KWH, in_range};
 use crate::refusal::Refusal;
@@ -96,7 +96,7 @@ impl Journal for EntryJournal {
 
     ghost wipe_leaves = { EntriesWiped };
 
-    ghost lawful = { λ j. entries_lawful (vec_items j.entries) };
+    ghost held_within_limit_at_places_in_range = { λ j. entries_held_within_limit_at_places_in_range (vec_items j.entries) };
 
     fn look(&self, participant: u32, month: u32) -> Option<u64> {
         self.entries

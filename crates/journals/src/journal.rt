@@ -1,6 +1,6 @@
 ghost use Rattle.std.specs.Prelude.{◌≡◌, ⊤};
 ghost use Rattle.journals.specs.Journal.{Pair, Held, in_range as is_in_range};
-ghost use Rattle.journals.specs.Calls.{Places, Lawful, Puts, PutThenLook, NothingHeld};
+ghost use Rattle.journals.specs.Calls.{Places, HeldWithinLimitAtPlacesInRange, Puts, PutThenLook, NothingHeld};
 
 use crate::refusal::Refusal;
 
@@ -36,7 +36,7 @@ pub trait Journal {
         ensures places { wipe_leaves self.old self.new };
 
     // what every journal keeps
-    ghost lawful: { (journal : Self) → Lawful (held journal) (place journal) };
+    ghost held_within_limit_at_places_in_range: { (journal : Self) → HeldWithinLimitAtPlacesInRange (held journal) (place journal) };
 }
 
 /// Whether a journal may have a place for a pair.

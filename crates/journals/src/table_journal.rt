@@ -33,7 +33,7 @@ impl Journal for TableJournal {
 
     ghost wipe_leaves = { TableWiped };
 
-    ghost lawful = { Prim.search rules };
+    ghost held_within_limit_at_places_in_range = { Prim.search rules };
 
     fn look(&self, participant: u32, month: u32) -> Option<u64> {
         let kwh = self.numbers[spot(self.numbers.len(), participant, month)?];
