@@ -8,7 +8,7 @@ use mir.Syntax.{Width}
 use mir.Val.{hbits}
 use Rattle.std.specs.Int.{int_div_euclid}
 use Rattle.amounts.proofs.Products.{times_sum, times_mono}
-use Rattle.amounts.specs.Rounding.{nearest, rounded, rounded_down, Nearest, NextNotAbove, Rounds, RoundsDown}
+use Rattle.amounts.specs.Rounding.{nearest, rounded, rounded_down, Nearest, LargestNotAbove, Rounds, RoundsDown}
 
 -- q × d − d ÷ 2 ≤ m < q × d + d ÷ 2
 abbrev About : ℕ → ℕ → ℕ → Type 0
@@ -106,33 +106,33 @@ rounded_above (negsuc n) d m h e = absurd (omega (arith, ints))
 one_more : (r : ℤ) (d : ℕ) → (r +ℤ pos 1) *ℤ pos d ≡ r *ℤ pos d +ℤ pos d
 one_more r d = omega (arith, ints, times_sum (pos d) r (pos 1))
 
-pub down_is_next_not_above : (n : ℤ) (d : ℕ) → 0 < d → NextNotAbove n d (rounded_down n d)
+pub down_is_largest_not_above : (n : ℤ) (d : ℕ) → 0 < d → LargestNotAbove n d (rounded_down n d)
 unfolding rounded_down
-down_is_next_not_above (pos m) d p =
+down_is_largest_not_above (pos m) d p =
     let split = div-add-mod' m d in
     let small = mod-lt m p in
     record { not_above = omega (arith, ints); next_above = omega (arith, ints) }
-down_is_next_not_above (negsuc m) d p =
+down_is_largest_not_above (negsuc m) d p =
     let split = div-add-mod' m d in
     let small = mod-lt m p in
     record { not_above = omega (arith, ints); next_above = omega (arith, ints, one_more (negsuc (m / d)) d) }
 
 -- r × d ≤ n ≤ m < (s + 1) × d
-next_mono : (n m : ℤ) (d : ℕ) (r s : ℤ) → n ≤ℤ m → NextNotAbove n d r → NextNotAbove m d s → r ≤ℤ s
+next_mono : (n m : ℤ) (d : ℕ) (r s : ℤ) → n ≤ℤ m → LargestNotAbove n d r → LargestNotAbove m d s → r ≤ℤ s
 next_mono n m d r s h a b =
     by_lt_z s r
     (λ l. absurd (omega (arith, ints, times_mono (s +ℤ pos 1) r d (omega (arith, ints)), a.not_above, b.next_above)))
     (λ l. l)
 
-pub next_not_above_is_down : (n : ℤ) (d : ℕ) (r : ℤ) → 0 < d → NextNotAbove n d r → r ≡ rounded_down n d
-next_not_above_is_down n d r p h =
-    let k = down_is_next_not_above n d p in
+pub largest_not_above_is_down : (n : ℤ) (d : ℕ) (r : ℤ) → 0 < d → LargestNotAbove n d r → r ≡ rounded_down n d
+largest_not_above_is_down n d r p h =
+    let k = down_is_largest_not_above n d p in
     let low = next_mono n n d r (rounded_down n d) (omega (arith, ints)) h k in
     let high = next_mono n n d (rounded_down n d) r (omega (arith, ints)) k h in
     omega (arith, ints)
 
 down_exact : (q : ℤ) (d : ℕ) → 0 < d → q ≡ rounded_down (q *ℤ pos d) d
-down_exact q d p = next_not_above_is_down (q *ℤ pos d) d q p (record { not_above = omega (arith, ints); next_above = omega (arith, ints, one_more q d) })
+down_exact q d p = largest_not_above_is_down (q *ℤ pos d) d q p (record { not_above = omega (arith, ints); next_above = omega (arith, ints, one_more q d) })
 
 down_sign : (n : ℤ) (d : ℕ) → (pos 0 ≤ℤ n → pos 0 ≤ℤ rounded_down n d) × (n <ℤ pos 0 → rounded_down n d <ℤ pos 0)
 unfolding rounded_down
@@ -141,9 +141,9 @@ down_sign (negsuc m) d = ((λ h. absurd (omega (arith, ints))), (λ h. omega (ar
 
 pub rounds_down : (n : ℤ) (d : ℕ) → 0 < d → RoundsDown n d (rounded_down n d)
 rounds_down n d p = record {
-  result_is_next_not_above = down_is_next_not_above n d p;
-  result_is_the_only_one = λ s h. next_not_above_is_down n d s p h;
-  larger_never_rounds_to_less = λ m h. next_mono n m d (rounded_down n d) (rounded_down m d) h (down_is_next_not_above n d p) (down_is_next_not_above m d p);
+  result_is_largest_not_above = down_is_largest_not_above n d p;
+  result_is_the_only_one = λ s h. largest_not_above_is_down n d s p h;
+  larger_never_rounds_to_less = λ m h. next_mono n m d (rounded_down n d) (rounded_down m d) h (down_is_largest_not_above n d p) (down_is_largest_not_above m d p);
   sign_is_never_turned = down_sign n d;
   exact_multiple_is_exact = λ q e. subst (λ k. rounded_down k d ≡ q) (sym e) (sym (down_exact q d p));
 }

@@ -21,7 +21,7 @@ pub record Nearest (n : ℤ) (d : ℕ) (r : ℤ) : Type 0 where
   pub half_away_from_zero : 2 * unsigned_abs (n -ℤ r *ℤ pos d) ≡ d → unsigned_abs n ≤ unsigned_abs (r *ℤ pos d)
 
 -- r × d is not above n, and (r + 1) × d is
-pub record NextNotAbove (n : ℤ) (d : ℕ) (r : ℤ) : Type 0 where
+pub record LargestNotAbove (n : ℤ) (d : ℕ) (r : ℤ) : Type 0 where
   pub not_above : (r *ℤ pos d) ≤ℤ n
   pub next_above : n <ℤ ((r +ℤ pos 1) *ℤ pos d)
 
@@ -35,8 +35,8 @@ pub record Rounds (n : ℤ) (d : ℕ) (r : ℤ) : Type 0 where
 
 -- what holds of r, n ÷ d rounded down
 pub record RoundsDown (n : ℤ) (d : ℕ) (r : ℤ) : Type 0 where
-  pub result_is_next_not_above : NextNotAbove n d r
-  pub result_is_the_only_one : (s : ℤ) → NextNotAbove n d s → s ≡ r
+  pub result_is_largest_not_above : LargestNotAbove n d r
+  pub result_is_the_only_one : (s : ℤ) → LargestNotAbove n d s → s ≡ r
   pub larger_never_rounds_to_less : (m : ℤ) → n ≤ℤ m → r ≤ℤ rounded_down m d
   pub sign_is_never_turned : (pos 0 ≤ℤ n → pos 0 ≤ℤ r) × (n <ℤ pos 0 → r <ℤ pos 0)
   pub exact_multiple_is_exact : (q : ℤ) → n ≡ q *ℤ pos d → r ≡ q

@@ -16,7 +16,7 @@ fn nearest(m: u64, d: NonZeroU64) -> u64
 /// `n ÷ d` to the nearest whole number; a half goes away from zero.
 pub fn rounded(n: i64, d: NonZeroU64) -> i64
     ensures value { result ≡ rounded_of n (non_zero_u64_get d) }
-    ensures rounds { Rounds n (non_zero_u64_get d) result }
+    ensures nearest_half_away_from_zero { Rounds n (non_zero_u64_get d) result }
 {
     let size = i128::from(nearest(n.unsigned_abs(), d));
     let signed = if n < 0 { -size } else { size };
@@ -26,7 +26,7 @@ pub fn rounded(n: i64, d: NonZeroU64) -> i64
 /// The largest whole number that is not above `n ÷ d`.
 pub fn rounded_down(n: i64, d: NonZeroU64) -> i64
     ensures value { result ≡ rounded_down_of n (non_zero_u64_get d) }
-    ensures rounds_down { RoundsDown n (non_zero_u64_get d) result }
+    ensures largest_not_above { RoundsDown n (non_zero_u64_get d) result }
 {
     i128::from(n).div_euclid(i128::from(d.get())) as i64
 }

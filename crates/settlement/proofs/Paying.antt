@@ -1,7 +1,7 @@
 -- A pay keeps the tally and the book sound, and pays every row its share.
 use Rattle.std.proofs.Common.{◌≡◌, List, [], ◌∷◌, map, length, ℤ, pos, ◌*ℤ◌, ◌≤ℤ◌, ◌<ℤ◌, Ok, sym, refl, ap, ◌∙◌, arith}
 use Rattle.std.proofs.lemmas.Int.{ints}
-use Rattle.amounts.specs.Rounding.{NextNotAbove}
+use Rattle.amounts.specs.Rounding.{LargestNotAbove}
 use Rattle.settlement.specs.Rules.{share, unsigned}
 use Rattle.settlement.specs.Books.{BookView, RowView, column_of, till, total_of}
 use Rattle.settlement.specs.Balance.{EachRow, SharesArePaid}
@@ -83,6 +83,6 @@ shares_paid t b b' x s g =
       till_is_fewer_cents_than_rows = bounds.1;
     })
   where
-    rounded_each : (u : Tally) → pos 0 <ℤ total u → (rows : List RowView) → EachRow (λ r. r.paid ≡ tally_share u r.project) rows → EachRow (λ r. NextNotAbove (money_left u *ℤ column u r.project) (unsigned (total u)) r.paid) rows
+    rounded_each : (u : Tally) → pos 0 <ℤ total u → (rows : List RowView) → EachRow (λ r. r.paid ≡ tally_share u r.project) rows → EachRow (λ r. LargestNotAbove (money_left u *ℤ column u r.project) (unsigned (total u)) r.paid) rows
     rounded_each u above [] e = tt
     rounded_each u above (r ∷ rs) e = (rw e.0 (share_rounds_down (money_left u) (total u) (column u r.project) above), rounded_each u above rs e.1)

@@ -4,7 +4,7 @@ use Rattle.std.proofs.Math.IntN.{*ℤ_comm}
 use Rattle.std.proofs.lemmas.Int.{ints, by_lt_z}
 use Rattle.amounts.proofs.Laws.{rounds_down}
 use Rattle.amounts.proofs.Products.{times_mono, times_sum}
-use Rattle.amounts.specs.Rounding.{NextNotAbove, rounded_down}
+use Rattle.amounts.specs.Rounding.{LargestNotAbove, rounded_down}
 use Rattle.settlement.specs.Rules.{share, sum_over, unsigned}
 
 pub unsigned_is : (z : ℤ) → pos 0 ≤ℤ z → pos (unsigned z) ≡ z
@@ -20,7 +20,7 @@ module _ (money : ℤ) (d : ℕ) (above : 0 < d) {X : Type 0} (column : X → �
 
   one_share : (x : X) → ((part x *ℤ pos d) ≤ℤ (money *ℤ column x)) × ((money *ℤ column x) <ℤ ((part x *ℤ pos d) +ℤ pos d))
   one_share x =
-      let law = (rounds_down (money *ℤ column x) d above).result_is_next_not_above in
+      let law = (rounds_down (money *ℤ column x) d above).result_is_largest_not_above in
       (law.not_above, omega (arith, ints, law.next_above, next_multiple (part x) (pos d)))
 
   columns_more : (x : X) (xs : List X) → money *ℤ sum_over column (x ∷ xs) ≡ (money *ℤ column x) +ℤ (money *ℤ sum_over column xs)
@@ -62,10 +62,10 @@ shares_fill money column xs h =
     let above : 0 < unsigned total = omega (arith, ints) in
     (not_above money (unsigned total) above column xs (sym is), fewer_than_rows money (unsigned total) above column xs (sym is))
 
-pub share_rounds_down : (money total column : ℤ) → pos 0 <ℤ total → NextNotAbove (money *ℤ column) (unsigned total) (share money total column)
+pub share_rounds_down : (money total column : ℤ) → pos 0 <ℤ total → LargestNotAbove (money *ℤ column) (unsigned total) (share money total column)
 share_rounds_down money total column h =
     let is : pos (unsigned total) ≡ total = unsigned_is total (omega (arith, ints)) in
-    (rounds_down (money *ℤ column) (unsigned total) (omega (arith, ints))).result_is_next_not_above
+    (rounds_down (money *ℤ column) (unsigned total) (omega (arith, ints))).result_is_largest_not_above
 
 -- no column, no share
 pub share_of_nothing : (money total : ℤ) → pos 0 <ℤ total → share money total (pos 0) ≡ pos 0

@@ -1,6 +1,6 @@
 -- What balances between a tally and a book. A book gives its till and rows with paid, dues and kept cents; the rest is from the tally.
 use Rattle.std.specs.Prelude.{◌≡◌, ℕ, ◌≤◌, List, [], ◌∷◌, length, ℤ, pos, ◌+ℤ◌, ◌-ℤ◌, ◌*ℤ◌, ◌≤ℤ◌, ◌<ℤ◌, unsigned_abs}
-use Rattle.amounts.specs.Rounding.{NextNotAbove}
+use Rattle.amounts.specs.Rounding.{LargestNotAbove}
 use Rattle.settlement.specs.Books.{BookView, RowView, till}
 use Rattle.settlement.specs.Rules.{cents, difference, outstanding, unsigned}
 use Rattle.settlement.specs.Tally.{Tally, actual_in, charges, closed_actuals, column, money_left, tally_share, total}
@@ -17,7 +17,7 @@ ChargesEqualPaymentsPlusTill t b = charges t ≡ (t.payments +ℤ till b)
 -- right after a pay
 pub record SharesArePaid (t : Tally) (b : BookView) : Type 0 where
   pub paid_is_the_share : EachRow (λ r. r.paid ≡ tally_share t r.project) b.rows
-  pub share_is_rounded_down : EachRow (λ r. NextNotAbove (money_left t *ℤ column t r.project) (unsigned (total t)) r.paid) b.rows
+  pub share_is_rounded_down : EachRow (λ r. LargestNotAbove (money_left t *ℤ column t r.project) (unsigned (total t)) r.paid) b.rows
   pub total_is_above_zero : pos 0 <ℤ total t
   pub till_is_not_negative : pos 0 ≤ℤ till b
   pub till_is_fewer_cents_than_rows : till b <ℤ pos (length b.rows)

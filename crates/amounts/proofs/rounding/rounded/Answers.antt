@@ -21,4 +21,4 @@ returns c =
     let d = c.args.d.value in
     let fits = rounded_fits w64 n d c.args.d.ok c.ranges.n in
     let value = ap (λ z. to_z w64 (of_z w64 z)) (c.if-n-lt0.signed-is ∙ signed-is c) ∙ to_z-of_z w64 (rounded n d) fits in
-    record { value = value; rounds = subst (Rounds n d) (sym value) (rounds n d c.args.d.ok) }
+    record { value = value; nearest_half_away_from_zero = subst (Rounds n d) (sym value) (rounds n d c.args.d.ok) }

@@ -9,4 +9,4 @@ returns c =
     let n = c.args.n in
     let d = c.args.d.value in
     let value : _ ≡ rounded_down n d = grind (arith, to_z-of_z, down_by_division, down_fits) in
-    record { value = value; rounds_down = subst (RoundsDown n d) (sym value) (rounds_down n d c.args.d.ok) }
+    record { value = value; largest_not_above = subst (RoundsDown n d) (sym value) (rounds_down n d c.args.d.ok) }
