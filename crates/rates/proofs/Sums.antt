@@ -5,7 +5,7 @@ use Rattle.std.specs.declared.ops.Range.{Range}
 use Rattle.std.specs.Iterator.{Yields}
 use Rattle.std.specs.List.{FoldsTo}
 use Rattle.std.specs.Option.{MatchOption}
-use Rattle.rates.specs.Rates.{Rates, Within, Bounded, highest}
+use Rattle.rates.specs.Rates.{Rates, Within, NoRateAboveTheHighest, highest}
 use Rattle.rates.specs.Factor.{AddsUp, RatesFrom, plus, sum_of, total}
 
 plus_none : (a : Option ℕ) → plus a None ≡ None
@@ -57,18 +57,18 @@ plus_within m n None b wa wb = tt
 plus_within m n (Some x) None wa wb = tt
 plus_within m n (Some x) (Some y) wa wb = omega arith
 
-pub sum_within : (rates : Rates) → Bounded rates → (first n : ℕ) → Within (n * highest) (sum_of rates first n)
+pub sum_within : (rates : Rates) → NoRateAboveTheHighest rates → (first n : ℕ) → Within (n * highest) (sum_of rates first n)
 unfolding sum_of
-sum_within rates bounded first zero = omega arith
-sum_within rates bounded first (suc n) =
+sum_within rates none_above first zero = omega arith
+sum_within rates none_above first (suc n) =
     let more : suc n * highest ≡ n * highest + highest = omega arith in
-    rw more (plus_within (n * highest) highest (sum_of rates first n) (rates (first + n)) (sum_within rates bounded first n) (bounded (first + n)))
+    rw more (plus_within (n * highest) highest (sum_of rates first n) (rates (first + n)) (sum_within rates none_above first n) (none_above (first + n)))
 
-pub adds_up : (rates : Rates) → Bounded rates → (first count : ℕ) (sum : Option ℕ) → sum ≡ sum_of rates first count → AddsUp rates first count sum
-adds_up rates bounded first count sum is = rw is (record {
+pub adds_up : (rates : Rates) → NoRateAboveTheHighest rates → (first count : ℕ) (sum : Option ℕ) → sum ≡ sum_of rates first count → AddsUp rates first count sum
+adds_up rates none_above first count sum is = rw is (record {
   missing_month_leaves_no_sum = missing_month rates first count;
   sum_is_the_total_of_the_rates = λ xs long all. rw (← long) (total_of_rates rates first xs all);
-  sum_is_at_most_the_highest_rate_each_month = sum_within rates bounded first count;
+  sum_is_at_most_the_highest_rate_each_month = sum_within rates none_above first count;
 })
 
 -- a range gives its next month, or ends

@@ -26,8 +26,8 @@ abbrev pub Within : ℕ → Option ℕ → Type 0
 Within limit number = IfSome number (λ n. n ≤ limit)
 
 -- every rate is within 0 to the highest
-abbrev pub Bounded : Rates → Type 0
-Bounded rates = (month : ℕ) → Within highest (rates month)
+abbrev pub NoRateAboveTheHighest : Rates → Type 0
+NoRateAboveTheHighest rates = (month : ℕ) → Within highest (rates month)
 
 -- a given rate above the highest counts as nothing
 abbrev pub counted : ℕ → Option ℕ

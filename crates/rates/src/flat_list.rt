@@ -8,7 +8,7 @@ use crate::rate_list::{RateList, counted_rate};
 /// The flat list: the same rate, whatever the month.
 #[derive(Clone, Copy)]
 pub struct FlatList {
-    // as given: a rate limited by `new` would need a ghost field for `bounded`, and is no plainer
+    // as given: a rate limited by `new` would need a ghost field for `no_rate_above_the_highest`, and is no plainer
     rate: u32,
 }
 
@@ -24,7 +24,7 @@ impl FlatList {
 impl RateList for FlatList {
     ghost rates = { flat_rates };
 
-    ghost bounded = { Prim.search rules };
+    ghost no_rate_above_the_highest = { Prim.search rules };
 
     fn rate(&self, _month: u32) -> Option<u32> {
         counted_rate(self.rate)

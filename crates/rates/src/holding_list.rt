@@ -1,6 +1,6 @@
 ghost use Rattle.std.specs.Prelude.{◌≡◌};
 ghost use Rattle.rates.specs.Holding.{Holds, held, latest_before};
-ghost use Rattle.rates.specs.Bounds.{held_bounded};
+ghost use Rattle.rates.specs.Bounds.{held_has_no_rate_above_the_highest};
 ghost use Rattle.std.proofs.Common.{rules};
 
 use crate::rate_list::RateList;
@@ -28,7 +28,7 @@ impl<L: RateList> HoldingList<L> {
 impl<L: RateList> RateList for HoldingList<L> {
     ghost rates = { λ h. held (L.RateList.rates h.list) };
 
-    ghost bounded = { Prim.search (rules, held_bounded) };
+    ghost no_rate_above_the_highest = { Prim.search (rules, held_has_no_rate_above_the_highest) };
 
     fn rate(&self, month: u32) -> Option<u32> {
         self.list

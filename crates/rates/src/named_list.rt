@@ -1,7 +1,7 @@
 ghost use Rattle.rates.specs.Named.{named_rates};
 ghost use Rattle.rates.specs.Lists.{flat_rates, quarter_rates};
 ghost use Rattle.rates.specs.declared.named_list.NamedList.TheVariants.{Flat, Quarter, HoldingFlat, HoldingQuarter};
-ghost use Rattle.rates.specs.Bounds.{held_bounded};
+ghost use Rattle.rates.specs.Bounds.{held_has_no_rate_above_the_highest};
 ghost use Rattle.std.proofs.Common.{rules};
 
 use crate::flat_list::FlatList;
@@ -25,11 +25,11 @@ pub enum NamedList {
 impl RateList for NamedList {
     ghost rates = { named_rates };
 
-    ghost bounded = { elim [
+    ghost no_rate_above_the_highest = { elim [
       | Flat list ↦ Prim.search rules
       | Quarter list ↦ Prim.search rules
-      | HoldingFlat list ↦ held_bounded (flat_rates list.list) (Prim.search rules)
-      | HoldingQuarter list ↦ held_bounded (quarter_rates list.list) (Prim.search rules)
+      | HoldingFlat list ↦ held_has_no_rate_above_the_highest (flat_rates list.list) (Prim.search rules)
+      | HoldingQuarter list ↦ held_has_no_rate_above_the_highest (quarter_rates list.list) (Prim.search rules)
     ] };
 
     fn rate(&self, month: u32) -> Option<u32> {

@@ -27,7 +27,7 @@ impl QuarterList {
 impl RateList for QuarterList {
     ghost rates = { quarter_rates };
 
-    ghost bounded = { Prim.search rules };
+    ghost no_rate_above_the_highest = { Prim.search rules };
 
     fn rate(&self, month: u32) -> Option<u32> {
         let place = (month / 3).checked_sub(self.first)?;

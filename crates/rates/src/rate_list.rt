@@ -1,5 +1,5 @@
 ghost use Rattle.std.specs.Prelude.{◌≡◌};
-ghost use Rattle.rates.specs.Rates.{Rates, Bounded, counted};
+ghost use Rattle.rates.specs.Rates.{Rates, NoRateAboveTheHighest, counted};
 
 /// The highest rate, in ten-millionths per month.
 pub const HIGHEST_RATE: u32 = 100_000;
@@ -14,7 +14,7 @@ pub trait RateList {
         ensures { result ≡ rates self.now month };
 
     // every rate is within 0 to the highest
-    ghost bounded: { (list : Self) → Bounded (rates list) };
+    ghost no_rate_above_the_highest: { (list : Self) → NoRateAboveTheHighest (rates list) };
 }
 
 /// A given rate; one above the highest counts as nothing.

@@ -10,7 +10,7 @@ try_fold-requires-clause-callable g c =
     record {
       at = λ xs s q x u ys fs step.
           let added = months_added rates _ (record { 0 = c.args.list }) (λ n x q r. (search rules, search rules)) xs _ s 0 q ys fs in
-          let small : q.1 ≤ length xs * highest = subst (Within (length xs * highest)) (sym (zero_plus _) ∙ added.1) (sum_within rates (g.met.L.RateList.bounded c.args.list.now) _ (length xs)) in
+          let small : q.1 ≤ length xs * highest = subst (Within (length xs * highest)) (sym (zero_plus _) ∙ added.1) (sum_within rates (g.met.L.RateList.no_rate_above_the_highest c.args.list.now) _ (length xs)) in
           let few : length xs < interest_months = omega (arith, added.2, added.3) in
           let same = added.0 in
           search rules;
@@ -24,4 +24,4 @@ returns g c =
     let value : c.try_fold.result ≡ sum_of rates (january c.args.year) interest_months =
     months_tried rates (12 * c.from-january.result) interest_months (length ran.0) ran.3 ran.1 c.try_fold.result ran.4.0 _ _ _ (sym (zero_plus _) ∙ added.1) added.2 added.3 ran.4.2 (omega (arith, added.4 (omega arith))) (λ a. search rules) (λ x m. (search rules, search rules)) ran.6
     ∙ ap (λ y. sum_of rates (january y) interest_months) c.from-january.ensures in
-    record { value = value; adds_up = adds_up rates (g.met.L.RateList.bounded c.args.list.now) (january c.args.year) interest_months c.try_fold.result value }
+    record { value = value; adds_up = adds_up rates (g.met.L.RateList.no_rate_above_the_highest c.args.list.now) (january c.args.year) interest_months c.try_fold.result value }
