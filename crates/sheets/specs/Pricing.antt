@@ -62,9 +62,9 @@ priced scale p om_base j =
 
 -- how far the columns of a priced project can reach
 pub record ColumnsInRange (c : Columns) : Type 0 where
-  pub expense_charge : unsigned_abs c.annual_expense_charge ≤ 120000000000
-  pub return_charge : unsigned_abs c.annual_return_charge ≤ 100000000000
-  pub depreciation_from_zero : pos 0 ≤ℤ c.depreciation_expense
-  pub depreciation_to_limit : c.depreciation_expense ≤ℤ pos 10000000000
-  pub requirement_from_zero : pos 0 ≤ℤ c.annual_revenue_requirement
-  pub requirement_to_limit : c.annual_revenue_requirement ≤ℤ pos 100000000
+  pub expense_charge_is_within_120_billion : unsigned_abs c.annual_expense_charge ≤ 120000000000
+  pub return_charge_is_within_100_billion : unsigned_abs c.annual_return_charge ≤ 100000000000
+  pub depreciation_is_not_below_0 : pos 0 ≤ℤ c.depreciation_expense
+  pub depreciation_is_at_most_10_billion : c.depreciation_expense ≤ℤ pos 10000000000
+  pub requirement_is_not_below_0 : pos 0 ≤ℤ c.annual_revenue_requirement
+  pub requirement_is_at_most_100_million : c.annual_revenue_requirement ≤ℤ pos 100000000

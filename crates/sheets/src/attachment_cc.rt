@@ -29,11 +29,11 @@ impl Template for AttachmentCc {
 
     ghost sums = { λ _ _. Unit {0} };
 
-    ghost small = { Prim.search rules };
+    ghost elements_are_small = { Prim.search rules };
 
-    ghost summed = { Prim.search rules };
+    ghost printed_sums_hold = { Prim.search rules };
 
-    ghost base = { Prim.search rules };
+    ghost om_base_is_within_the_largest_amount = { Prim.search rules };
 
     fn lines() -> &'static [CcLine] {
         &[

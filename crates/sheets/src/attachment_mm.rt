@@ -68,7 +68,7 @@ impl Template for AttachmentMm {
 
     ghost sums = { MmLinesAddUp };
 
-    ghost small = { λ f r.
+    ghost elements_are_small = { λ f r.
         let gross = r GrossPlant in
         let accumulated = r AccumulatedDepreciation in
         let om = r TotalOm in
@@ -85,7 +85,7 @@ impl Template for AttachmentMm {
           return = record { taxes = omega arith; return = omega arith; base = omega (arith, ints) };
         } };
 
-    ghost summed = { λ f.
+    ghost printed_sums_hold = { λ f.
         record {
           line_3d = mm_adjusted_om f;
           line_4_divides_3d_by_1a = refl;
@@ -94,7 +94,7 @@ impl Template for AttachmentMm {
           other_om_and_3d_are_line_3 = omega (arith, ints);
         } };
 
-    ghost base = { Prim.search rules };
+    ghost om_base_is_within_the_largest_amount = { Prim.search rules };
 
     fn lines() -> &'static [MmLine] {
         &[

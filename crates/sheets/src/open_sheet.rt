@@ -92,7 +92,7 @@ impl<T: Template> OpenSheet<T> {
     /// Works out page 1 and uses the sheet up; a refusal gives the sheet back.
     pub fn finish(self) -> Result<WorkedSheet<T>, (Refusal, OpenSheet<T>)>
         ensures outcome { result ≡ finish_outcome hundredths T.rules self }
-        ensures fits { IfOk result (λ w. factors_fit hundredths w.factors ≡ true) }
+        ensures page_two_factors_are_within_1000_percent { IfOk result (λ w. factors_fit hundredths w.factors ≡ true) }
         ensures follows_the_tariff { IfOk result (λ w. PageOneFollows hundredths (T.rules.elements_of self) w.factors) }
         ensures printed_sums_hold { T.sums self (T.rules.elements_of self) }
     {

@@ -72,9 +72,9 @@ pub trait Template {
     fn om_base(project: &Project) -> i64
         ensures { result ≡ rules.om_base project.now };
 
-    ghost small: { (f : Entered) → InRange f → SmallElements (rules.elements_of f) };
+    ghost elements_are_small: { (f : Entered) → InRange f → SmallElements (rules.elements_of f) };
 
-    ghost summed: { (f : Entered) → sums f (rules.elements_of f) };
+    ghost printed_sums_hold: { (f : Entered) → sums f (rules.elements_of f) };
 
-    ghost base: { (j : Priced) → ProjectFits j → unsigned_abs (rules.om_base j) ≤ 10000000000 };
+    ghost om_base_is_within_the_largest_amount: { (j : Priced) → ProjectFits j → unsigned_abs (rules.om_base j) ≤ 10000000000 };
 }

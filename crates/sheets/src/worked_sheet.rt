@@ -146,7 +146,7 @@ impl<T: Template> WorkedSheet<T> {
     /// The factors of page 1.
     pub fn factors(&self) -> Factors
         ensures value { result ≡ self.now.factors }
-        ensures fits { factors_fit hundredths result ≡ true }
+        ensures page_two_factors_are_within_1000_percent { factors_fit hundredths result ≡ true }
     {
         self.factors
     }

@@ -14,8 +14,8 @@ told g c =
 pub invariant_of-result : goal.invariant_of-result
 invariant_of-result g c = (told g c).0
 
-pub returns-clause-fits : goal.returns-clause-fits
-returns-clause-fits g c = (told g c).0
+pub returns-clause-page_two_factors_are_within_1000_percent : goal.returns-clause-page_two_factors_are_within_1000_percent
+returns-clause-page_two_factors_are_within_1000_percent g c = (told g c).0
 
 pub returns-clause-follows_the_tariff : goal.returns-clause-follows_the_tariff
 returns-clause-follows_the_tariff g c = (told g c).1
