@@ -60,6 +60,6 @@ project_on line =
     (Ok (project_with n gross accumulated expense))))))
 
 -- the answer, by what its parts of the file hold
-abbrev pub Shows : Result FiledFigure Refusal → Result (List ℕ × ℤ) Refusal → Type 0
-Shows (Ok f) wanted = wanted ≡ Ok (f.label.now, f.amount)
-Shows (Err why) wanted = wanted ≡ Err why
+abbrev pub AnswersTheLabelAndAmount : Result FiledFigure Refusal → Result (List ℕ × ℤ) Refusal → Type 0
+AnswersTheLabelAndAmount (Ok f) wanted = wanted ≡ Ok (f.label.now, f.amount)
+AnswersTheLabelAndAmount (Err why) wanted = wanted ≡ Err why

@@ -44,7 +44,7 @@ abbrev pub next_line : FilingReader → List ℕ
 next_line reader = take 57 reader.rest.now
 
 -- a reader starts before the first line
-pub record Opens (file : List ℕ) (reader : FilingReader) : Type 0 where
+pub record StandsBeforeTheFirstLine (file : List ℕ) (reader : FilingReader) : Type 0 where
   pub reads_the_file : reader.rest.now ≡ file
   pub no_line_is_read : reader.lines ≡ 0
 
@@ -62,7 +62,7 @@ pub record OneLineOn (before after : FilingReader) : Type 0 where
   pub one_line_more : after.lines ≡ before.lines + 1
 
 -- what comes next, and where the reader stands after it
-abbrev pub Nexts : FilingReader → Result (Option Record) LineRefusal → FilingReader → Type 0
-Nexts before (Ok (Some r)) after = (whole (next_line before) ≡ true) × PartOf before r × OneLineOn before after
-Nexts before (Ok None) after = (unread before ≡ []) × (after ≡ before)
-Nexts before (Err e) after = (whole (next_line before) ≡ false) × (unread before ≡ next_line before ∷ lines_of (drop 57 before.rest.now)) × (e ≡ at_line (before.lines + 1) NotALine) × (after ≡ before)
+abbrev pub AnswersTheNextLine : FilingReader → Result (Option Record) LineRefusal → FilingReader → Type 0
+AnswersTheNextLine before (Ok (Some r)) after = (whole (next_line before) ≡ true) × PartOf before r × OneLineOn before after
+AnswersTheNextLine before (Ok None) after = (unread before ≡ []) × (after ≡ before)
+AnswersTheNextLine before (Err e) after = (whole (next_line before) ≡ false) × (unread before ≡ next_line before ∷ lines_of (drop 57 before.rest.now)) × (e ≡ at_line (before.lines + 1) NotALine) × (after ≡ before)

@@ -1,5 +1,5 @@
 ghost use Rattle.std.specs.Prelude.{◌≡◌, ◌≤◌, length, Ok, Err};
-ghost use Rattle.filing.specs.Fields.{Shows, blank, figure_on, label_in, named, number_in, project_on};
+ghost use Rattle.filing.specs.Fields.{AnswersTheLabelAndAmount, blank, figure_on, label_in, named, number_in, project_on};
 
 use crate::refusal::Refusal;
 use columns::{after_spaces, read_number};
@@ -55,7 +55,7 @@ fn number_in(field: &[u8]) -> Result<i64, Refusal>
 
 /// The fields of an F line.
 pub(crate) fn read_figure(line: &[u8; 56]) -> Result<FiledFigure, Refusal>
-    ensures { Shows result (figure_on line.now) }
+    ensures { AnswersTheLabelAndAmount result (figure_on line.now) }
 {
     let label = label_in(&line[1..4])?;
     let amount = number_in(&line[4..16])?;

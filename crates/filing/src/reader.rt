@@ -44,12 +44,12 @@ pub(crate) struct FilingReader<'a> {
 
 impl<'a> FilingReader<'a> {
     ghost use Rattle.std.specs.Prelude.{true, false, take, drop, IfSome, MatchOption};
-    ghost use Rattle.filing.specs.Lines.{Nexts, Opens, next_line, whole};
+    ghost use Rattle.filing.specs.Lines.{AnswersTheNextLine, StandsBeforeTheFirstLine, next_line, whole};
 
     /// A reader at the start of a filing.
     pub(crate) fn new(file: &'a [u8]) -> FilingReader<'a>
         requires { length file.now ≤ 65536 }
-        ensures { Opens file.now result }
+        ensures { StandsBeforeTheFirstLine file.now result }
     {
         FilingReader {
             rest: file,
@@ -81,7 +81,7 @@ impl<'a> FilingReader<'a> {
     /// The next line, or nothing at the end of the file; a refusal leaves the reader where it is.
     // No iterator: its item would be a `Result`, which each loop had to take apart before it looks at the letter.
     pub(crate) fn next_record(&mut self) -> Result<Option<Record<'a>>, LineRefusal>
-        ensures { Nexts self.old result self.new }
+        ensures { AnswersTheNextLine self.old result self.new }
     {
         if self.rest.is_empty() {
             return Ok(None);

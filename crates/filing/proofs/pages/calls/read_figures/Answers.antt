@@ -9,13 +9,13 @@ use Rattle.filing.specs.declared.refusal.LineRefusal.{LineRefusal}
 use Rattle.filing.specs.declared.refusal.Refusal.{Refusal}
 use Rattle.filing.specs.declared.refusal.Refusal.TheVariants.{NotALine}
 use Rattle.filing.specs.Filed.{Filed, Stage, at, by_letter, entering, from, project_taken}
-use Rattle.filing.specs.Lines.{Nexts, next_line, unread}
+use Rattle.filing.specs.Lines.{AnswersTheNextLine, next_line, unread}
 use Rattle.filing.specs.Outcomes.{then}
 use Rattle.filing.specs.Reading.{going_on}
 use Rattle.filing.proofs.pages.calls.read_figures.Goals as goal
 
 -- a P line gives what the lines from it on give
-project_line : {L : Type 0} (t : Rules L) (before after : FilingReader) (r : Record) (f : Figures) → Nexts before (Ok (Some r)) after → r.letter ≡ 80 → from t (before.lines + 1) (entering f) (unread before) ≡ going_on t (at r.line (project_taken t (entering f) r.bytes.now)) after
+project_line : {L : Type 0} (t : Rules L) (before after : FilingReader) (r : Record) (f : Figures) → AnswersTheNextLine before (Ok (Some r)) after → r.letter ≡ 80 → from t (before.lines + 1) (entering f) (unread before) ≡ going_on t (at r.line (project_taken t (entering f) r.bytes.now)) after
 project_line t before after r f n is =
     let line = next_line before in
     let given : ℕ → Result Stage Refusal → Result Filed LineRefusal = λ k taken. then (at k taken) (λ next. from t (k + 1) next (unread after)) in
@@ -29,5 +29,5 @@ project_line t before after r f n is =
 pub returns-in-P : goal.returns-in-P
 returns-in-P g c =
     let line = c.in-Some.line in
-    let n : Nexts c.lines.reader (Ok (Some line)) c.next_record.new.self = search rules in
+    let n : AnswersTheNextLine c.lines.reader (Ok (Some line)) c.next_record.new.self = search rules in
     record { gives_the_same = rw c.lines.invariant (project_line g.T.Template.rules c.lines.reader c.next_record.new.self line c.lines.sheet n c.in-P.is) }
