@@ -58,7 +58,7 @@ impl PricedProjects {
     /// The projects.
     pub fn as_slice(&self) -> &[PricedProject]
         ensures rows { map row_of result.now ≡ rows_of self.now }
-        ensures few { length result.now ≤ 64 }
+        ensures at_most_64_projects { length result.now ≤ 64 }
     {
         self.rows.as_slice()
     }

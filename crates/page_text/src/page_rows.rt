@@ -29,7 +29,7 @@ impl Model for PageRows {
     ghost view = { λ page. map row_of (rows_in page.rows) };
 }
 
-// `few` stands in three calls: the model hides from callers what the type knows.
+// `at_most_64_rows` stands in three calls: the model hides from callers what the type knows.
 impl PageRows {
     /// No rows.
     pub fn new() -> Self
@@ -43,7 +43,7 @@ impl PageRows {
     /// Adds a row after the others; where they are 64, they stay as they are.
     pub fn push(&mut self, row: PageRow) -> Result<(), Full>
         ensures outcome { Gives (pushed self.old (row_of row)) result self.new }
-        ensures few { length self.new ≤ 64 }
+        ensures at_most_64_rows { length self.new ≤ 64 }
     {
         self.rows.push(row)
     }
@@ -51,7 +51,7 @@ impl PageRows {
     /// The rows in use.
     pub(crate) fn as_slice(&self) -> &[PageRow]
         ensures rows { map row_of result.now ≡ self.now }
-        ensures few { length result.now ≤ 64 }
+        ensures at_most_64_rows { length result.now ≤ 64 }
     {
         self.rows.as_slice()
     }
@@ -59,7 +59,7 @@ impl PageRows {
     /// How many rows there are.
     pub fn len(&self) -> usize
         ensures rows { result ≡ length self.now }
-        ensures few { result ≤ 64 }
+        ensures at_most_64_rows { result ≤ 64 }
     {
         self.as_slice().len()
     }

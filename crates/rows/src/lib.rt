@@ -83,7 +83,7 @@ impl<T: Copy, const MOST: usize> Rows<T, MOST> {
     /// The rows.
     pub fn as_slice(&self) -> &[T]
         ensures rows { result.now ≡ rows_in self.now }
-        ensures few { length result.now ≤ MOST }
+        ensures no_more_than_the_limit { length result.now ≤ MOST }
     {
         &self.places[..self.count]
     }
