@@ -9,8 +9,8 @@ mod tests;
 
 /// How many worked cases the table has; the contract is the table.
 pub fn worked_cases() -> u8
-    ensures table { WorkedCases }
-    ensures count { result ≡ 25 }
+    ensures worked_cases_hold { WorkedCases }
+    ensures counts_25_cases { result ≡ 25 }
 {
     25
 }

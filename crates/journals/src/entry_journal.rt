@@ -45,7 +45,7 @@ pub struct EntryJournal {
 impl EntryJournal {
     /// The journal over a run, which holds what stands there: of a pair's used entries the first counts.
     pub fn new(entries: Vec<Entry>) -> EntryJournal
-        ensures map { entries_held result ≡ held_among entries.items }
+        ensures holds_what_stands_in_the_run { entries_held result ≡ held_among entries.items }
         ensures places { entries_place result ≡ places_among entries.items }
         ensures run { vec_items result.entries ≡ entries.items }
     {

@@ -27,8 +27,8 @@ pub trait Journal {
 
     /// Holds the kilowatt-hours under a pair that has a place, in place of what it held.
     fn put(&mut self, participant: u32, month: u32, kwh: u64) -> Result<(), Refusal>
-        ensures puts { Puts held place put_leaves self.old (participant, month) kwh result self.new }
-        ensures then_look { PutThenLook (held self.old) (participant, month) kwh result (held self.new) };
+        ensures held_if_accepted_else_unchanged { Puts held place put_leaves self.old (participant, month) kwh result self.new }
+        ensures look_then_answers_what_was_put { PutThenLook (held self.old) (participant, month) kwh result (held self.new) };
 
     /// Holds nothing any more.
     fn wipe(&mut self)

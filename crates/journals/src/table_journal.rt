@@ -17,7 +17,7 @@ pub struct TableJournal {
 impl TableJournal {
     /// The journal over a run, which holds what stands there; a number above the limit is none.
     pub fn new(numbers: Vec<u64>) -> TableJournal
-        ensures map { table_held result ≡ held_in numbers.items }
+        ensures holds_what_stands_in_the_run { table_held result ≡ held_in numbers.items }
         ensures places { table_place result ≡ places_in (length numbers.items) }
     {
         TableJournal { numbers }

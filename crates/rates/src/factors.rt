@@ -11,7 +11,7 @@ const INTEREST_MONTHS: u32 = 24;
 /// missing.
 pub fn factor<L: RateList>(list: &L, year: u16) -> Option<u32>
     ensures value { result ≡ factor_of (L.rates list.now) year }
-    ensures adds_up { AddsUp (L.rates list.now) (january year) interest_months result }
+    ensures adds_up_the_rates_of_24_months { AddsUp (L.rates list.now) (january year) interest_months result }
 {
     let january = 12 * u32::from(year);
     (january..january + INTEREST_MONTHS).try_fold(0, |sum, month| Some(sum + list.rate(month)?))

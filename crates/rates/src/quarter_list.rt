@@ -17,7 +17,7 @@ impl QuarterList {
     /// The list whose rates stand one to a quarter, from the quarter `first` on (January to March of a
     /// year is 4 × year); a rate above the highest counts as nothing.
     pub fn new(first: u32, run: Vec<u32>) -> QuarterList
-        ensures meaning { quarter_rates result ≡ quarterly first run.items }
+        ensures rates_stand_one_to_a_quarter { quarter_rates result ≡ quarterly first run.items }
         ensures each_rate_stands_for_three_months { QuarterByQuarter first run.items (quarter_rates result) }
     {
         QuarterList { first, run }

@@ -6,8 +6,8 @@ ghost use Rattle.std.specs.Prelude.{◌≡◌};
 
 /// How many worked cases the table has; the contract is the table.
 pub fn settled_cases() -> u8
-    ensures table { SettledCases }
-    ensures count { result ≡ 17 }
+    ensures settled_cases_hold { SettledCases }
+    ensures counts_17_cases { result ≡ 17 }
 {
     17
 }

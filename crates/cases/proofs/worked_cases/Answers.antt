@@ -7,7 +7,7 @@ use Rattle.cases.proofs.worked_cases.Goals as goal
 pub returns : goal.returns
 unfolding rounded
 returns c = record {
-  table = record {
+  worked_cases_hold = record {
     mm_lines_4_9_and_14_are_250_350_and_1000 = refl;
     mm_project_7_requires_2950000 = refl;
     cc_lines_9_and_14_are_371_and_1132 = refl;
@@ -18,5 +18,5 @@ returns c = record {
     no_rate_in_january_2015 = none_in_january_2015;
     book_settles_as_worked = settled;
   };
-  count = refl;
+  counts_25_cases = refl;
 }

@@ -3,4 +3,4 @@ use Rattle.settlement_cases.proofs.Table.{settled}
 use Rattle.settlement_cases.proofs.settled_cases.Goals as goal
 
 pub returns : goal.returns
-returns c = record { table = settled; count = refl }
+returns c = record { settled_cases_hold = settled; counts_17_cases = refl }

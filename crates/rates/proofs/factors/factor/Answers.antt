@@ -24,4 +24,4 @@ returns g c =
     let value : c.try_fold.result ≡ sum_of rates (january c.args.year) interest_months =
     months_tried rates (12 * c.from-january.result) interest_months (length ran.0) ran.3 ran.1 c.try_fold.result ran.4.0 _ _ _ (sym (zero_plus _) ∙ added.1) added.2 added.3 ran.4.2 (omega (arith, added.4 (omega arith))) (λ a. search rules) (λ x m. (search rules, search rules)) ran.6
     ∙ ap (λ y. sum_of rates (january y) interest_months) c.from-january.ensures in
-    record { value = value; adds_up = adds_up rates (g.met.L.RateList.no_rate_above_the_highest c.args.list.now) (january c.args.year) interest_months c.try_fold.result value }
+    record { value = value; adds_up_the_rates_of_24_months = adds_up rates (g.met.L.RateList.no_rate_above_the_highest c.args.list.now) (january c.args.year) interest_months c.try_fold.result value }
