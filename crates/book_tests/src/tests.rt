@@ -1,6 +1,6 @@
 mod limits;
 mod money;
-mod questions;
+mod refusals;
 mod rows;
 mod standing;
 mod years;
