@@ -36,5 +36,7 @@ list '6 parallel arrays' 'const [A-Z_]+: \[|\.zip\('
 list '7 switches and tables of functions' '\bdyn\b|\bfn\(|impl Fn|_ => None,|_ => match'
 printf '8 lines of proofs, by crate\n'
 for crate in crates/*/; do
-    [ -d "$crate/proofs" ] && printf '    %s %s\n' "$(basename "$crate")" "$(find "$crate/proofs" -name '*.antt' -exec cat {} + | wc -l)"
+    if [ -d "$crate/proofs" ]; then
+        printf '    %s %s\n' "$(basename "$crate")" "$(find "$crate/proofs" -name '*.antt' -exec cat {} + | wc -l)"
+    fi
 done
