@@ -3,7 +3,5 @@
 
 mod amount;
 mod answer;
-#[cfg(test)]
-mod tests;
 
 pub use answer::Answer;

@@ -7,8 +7,6 @@ mod journal_kind;
 mod line;
 mod numbers;
 mod reading;
-#[cfg(test)]
-mod tests;
 mod words;
 
 pub use entry::{Entry, MeterReading};

@@ -8,8 +8,6 @@ mod priced_projects;
 mod reader;
 mod refusal;
 mod sheet_lines;
-#[cfg(test)]
-mod tests;
 
 pub use filing::Filing;
 pub use filing::calls::{LONGEST, read_filing, read_pages};

@@ -1,4 +1,4 @@
-use crate::Answer;
+use answers::Answer;
 use settlement::{Refusal, RowAnswer, State};
 use std::process::Abort;
 

@@ -1,4 +1,4 @@
-use crate::{Entry, JournalKind, Line, MeterReading, read_line};
+use entries::{Entry, JournalKind, Line, MeterReading, read_line};
 use rates::RateList;
 use std::process::Abort;
 

@@ -1,4 +1,4 @@
-use crate::read_filing;
+use filing::read_filing;
 use sheets::Columns;
 use std::test::Fail;
 
