@@ -4,3 +4,4 @@ pub mod Totals
 pub mod Equal
 pub mod Closed
 pub mod Held
+pub mod Posting

@@ -8,6 +8,7 @@ ghost use Rattle.settlement.specs.Outcomes.{in_dollars, in_money};
 ghost use Rattle.settlement.specs.Paying.{share_of, with_share};
 ghost use Rattle.settlement.specs.Rules.{difference};
 ghost use Rattle.settlement.specs.declared.refusal.Refusal.TheVariants.{ActualOutOfRange, RequirementOutOfRange};
+ghost use Rattle.book.specs.Rows.{AnswerInRange};
 
 use crate::figures::Figures;
 use crate::rules;
@@ -125,7 +126,8 @@ impl Row {
     }
 
     pub(crate) fn answer(&self) -> RowAnswer
-        ensures { result ≡ answer_of self.now }
+        ensures answers_the_row { result ≡ answer_of self.now }
+        ensures row_has_kept_cents_and_column_16_in_range { AnswerInRange result }
     {
         RowAnswer {
             project: self.project,

@@ -6,7 +6,7 @@ use std::test::Fail;
 /// A figure by the label of its line.
 type Entry = (&'static str, i64);
 
-const MM_FIGURES: [Entry; 10] = [
+const MM_FIGURES: [Entry; AttachmentMm::LINE_COUNT] = [
     ("1", 1_000_000_000),
     ("1a", 400_000_000),
     ("3", 30_000_000),
@@ -19,7 +19,7 @@ const MM_FIGURES: [Entry; 10] = [
     ("12", 42_000_000),
 ];
 
-const CC_FIGURES: [Entry; 7] = [
+const CC_FIGURES: [Entry; AttachmentCc::LINE_COUNT] = [
     ("1", 1_865_000_000),
     ("2", 1_305_500_000),
     ("3", 52_989_310),

@@ -1,3 +1,4 @@
 pub mod ThreeYears
+pub mod Correction
 pub mod Settling
 pub mod Table

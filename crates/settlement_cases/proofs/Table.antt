@@ -1,6 +1,7 @@
 -- The worked cases of the book, computed.
 use Rattle.std.proofs.Common.{refl}
 use Rattle.amounts.specs.Rounding.{rounded, rounded_down}
+use Rattle.settlement_cases.proofs.Correction.{correction_run}
 use Rattle.settlement_cases.proofs.Settling.{refunded}
 use Rattle.settlement_cases.proofs.ThreeYears.{three_years_run}
 use Rattle.settlement_cases.specs.Table.{SettledCases}
@@ -8,14 +9,14 @@ use Rattle.settlement_cases.specs.Table.{SettledCases}
 pub settled : SettledCases
 unfolding rounded rounded_down
 settled = record {
-  money_of_100_pays_33_and_66 = refl;
-  resettling_to_50_answers_50_below_zero = refl;
-  money_of_50_pays_16_and_33 = refl;
+  correction_goes_as_worked = correction_run;
   first_cent_pays_nothing = refl;
   second_cent_pays_0_and_1 = refl;
   third_cent_pays_1_and_2 = refl;
   both_readings_cost_a_cent = refl;
   usage_rate_is_14750 = refl;
+  half_of_a_rate_is_posted_as_1 = refl;
+  third_of_a_rate_is_refused = refl;
   million_kilowatt_hours_cost_147500_cents = refl;
   one_kilowatt_hour_costs_nothing = refl;
   over_recovery_is_refunded = refunded;

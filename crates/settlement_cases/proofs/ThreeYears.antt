@@ -6,13 +6,10 @@ use Rattle.rates.specs.Factor.{sum_of}
 use Rattle.settlement.specs.declared.refusal.Refusal.TheVariants.{AlreadyHeld}
 use Rattle.settlement.specs.declared.state.State.TheVariants.{Draft, Posted}
 use Rattle.settlement.specs.Books.{BookView, nothing_held}
-use Rattle.settlement.specs.Calls.{Call, file, post, bill, resettle, pay, state, close}
+use Rattle.settlement.specs.Calls.{file, post, bill, resettle, pay, state, close}
 use Rattle.settlement.specs.Drafting.{opened}
-use Rattle.settlement.specs.Runs.{Run, Step, no_call, one_more}
-use Rattle.settlement_cases.specs.Years.{ThreeYearsRun, book, every_month, last_book, row, three_years}
-
-abbrev Goes : Call → BookView → BookView → Type 0
-Goes c b b' = Step (λ b. b) (λ b pair. true) c b b'
+use Rattle.settlement.specs.Runs.{Run, no_call, one_more}
+use Rattle.settlement_cases.specs.Years.{Goes, ThreeYearsRun, book, every_month, last_book, row, three_years}
 
 abbrev book_1 : BookView
 book_1 = book 2026 Draft (pos 0) (row 7 (pos 0) (pos 0) (pos 0) (Some (pos 1)) None (pos 0) ∷ []) nothing_held

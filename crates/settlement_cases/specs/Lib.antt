@@ -1,2 +1,3 @@
 pub mod Years
+pub mod Correction
 pub mod Table

@@ -10,7 +10,7 @@ use Rattle.settlement.specs.Lists.{Lists}
 use Rattle.settlement.specs.Balance.{difference_in}
 use Rattle.settlement.specs.Counting.{tally}
 use Rattle.settlement.specs.Drafting.{opened}
-use Rattle.settlement.specs.Runs.{Run}
+use Rattle.settlement.specs.Runs.{Run, Step}
 use Rattle.settlement.specs.Tally.{charges, closed_actuals}
 
 -- project, due now, due next, kept cents, requirement, actual, paid
@@ -20,6 +20,10 @@ row project now next kept requirement actual paid = record { project = project; 
 -- year, state, money, rows, what the journal holds
 abbrev pub book : ℕ → State → ℤ → List RowView → Held → BookView
 book year posted money rows held = record { year = year; state = posted; money = money; rows = rows; held = held }
+
+-- a call takes one book to the next, over a journal that has every place
+abbrev pub Goes : Call → BookView → BookView → Type 0
+Goes c b b' = Step (λ b. b) (λ b pair. true) c b b'
 
 -- a quarter of a percent in every month
 abbrev pub every_month : Lists

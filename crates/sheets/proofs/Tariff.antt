@@ -114,7 +114,7 @@ return_follows scale e p =
 
 om_follows : (scale : ℕ) (o : Option TransmissionOm) → om_base_above_zero o ≡ true → OmFollows scale o (option_map (om_factor scale) o)
 om_follows scale (Some e) h = single_follows scale e.accumulated_depreciation e.adjusted_om (above_told e.accumulated_depreciation h)
-om_follows scale None h = tt
+om_follows scale None h = refl
 
 pub factors_follow : (scale : ℕ) (e : Elements) → bases_above_zero e ≡ true → PageOneFollows scale e (factors_of scale e)
 factors_follow scale e h =

@@ -1,5 +1,5 @@
 -- The two templates: Attachment MM and Attachment CC.
-use Rattle.std.specs.Prelude.{◌≡◌, ℕ, true, List, [], ◌∷◌, ℤ, pos, ◌+ℤ◌, ◌-ℤ◌, Some, None, codes}
+use Rattle.std.specs.Prelude.{ℕ, true, List, [], ◌∷◌, ℤ, pos, ◌+ℤ◌, ◌-ℤ◌, Some, None, codes}
 use Rattle.questions.specs.Questions.{within}
 use Rattle.sheets.specs.declared.attachment_cc.CcLine.{CcLine}
 use Rattle.sheets.specs.declared.attachment_cc.CcLine.TheVariants as cc
@@ -138,11 +138,3 @@ cc_rules = record {
   adjusted_om_fits = λ f. true;
   om_base = λ j. pos 0;
 }
-
--- the sums between the printed lines of Attachment MM: 2 + 1a = 1, 3d + 3b + 3c = 3a, and other O&M + 3d = 3
-pub record MmLinesAddUp (f : Figures) (e : Elements) : Type 0 where
-  pub line_3d : ℤ
-  pub line_4_divides_3d_by_1a : e.transmission_om ≡ Some (record { adjusted_om = line_3d; accumulated_depreciation = amount_of figure.AccumulatedDepreciation f })
-  pub net_plant_and_1a_are_line_1 : e.returns.net_plant +ℤ amount_of figure.AccumulatedDepreciation f ≡ amount_of figure.GrossPlant f
-  pub lines_3d_3b_and_3c_are_line_3a : line_3d +ℤ amount_of figure.LseExpenses f +ℤ amount_of figure.Account565 f ≡ amount_of figure.TransmissionOm f
-  pub other_om_and_3d_are_line_3 : e.expense.other_om +ℤ line_3d ≡ amount_of figure.TotalOm f

@@ -8,3 +8,4 @@ pub mod Worked
 pub mod Sheets
 pub mod Pricing
 pub mod Tariff
+pub mod Printed

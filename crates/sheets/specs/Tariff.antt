@@ -36,8 +36,7 @@ NearestParts scale q r = Nearest (q.over *ℤ pos scale) q.under r
 abbrev pub OmFollows : ℕ → Option TransmissionOm → Option ℤ → Type 0
 OmFollows scale (Some e) (Some r) = NearestParts scale (single e.accumulated_depreciation e.adjusted_om) r
 OmFollows scale (Some e) None = ⊥
-OmFollows scale None (Some r) = ⊥
-OmFollows scale None None = Unit {0}
+OmFollows scale None o = o ≡ None
 
 -- each single factor is nearest to its own quotient, and line 9 to the exact sum of the three
 pub record ExpenseFollows (scale : ℕ) (e : ExpenseElements) (p : ExpenseFactors) : Type 0 where

@@ -1,5 +1,6 @@
 ghost use Rattle.std.specs.Prelude.{◌≡◌, ◌^◌, ◌≤◌, unsigned_abs, refl};
-ghost use Rattle.sheets.specs.Attachments.{MmLinesAddUp, mm_adjusted_om, mm_net_plant, mm_other_om, mm_rules, mm_transmission_om};
+ghost use Rattle.sheets.specs.Attachments.{mm_adjusted_om, mm_net_plant, mm_other_om, mm_rules, mm_transmission_om};
+ghost use Rattle.sheets.specs.Printed.{MmFactorsDivide, MmLinesAddUp};
 ghost use Rattle.std.proofs.Common.{arith, rules};
 ghost use Rattle.std.proofs.lemmas.Int.{ints};
 ghost use Rattle.sheets.specs.declared.figures.Figure.TheVariants.{GrossPlant, AccumulatedDepreciation, TotalOm, TransmissionOm, LseExpenses, Account565, GeneralDepreciation, OtherTaxes, IncomeTaxes, ReturnOnRateBase};
@@ -64,9 +65,17 @@ fn transmission_om(figures: &Figures) -> TransmissionOm
 impl Template for AttachmentMm {
     type Line = MmLine;
 
+    const LINE_COUNT: usize = 10;
+
+    ghost LINE_COUNT = { 10 };
+
     ghost rules = { mm_rules };
 
-    ghost sums = { MmLinesAddUp };
+    ghost lines_add_up = { MmLinesAddUp };
+
+    ghost factors_divide = { MmFactorsDivide };
+
+    ghost line_count_is_the_number_of_lines = { refl };
 
     ghost elements_are_small = { λ f r.
         let gross = r GrossPlant in
@@ -85,13 +94,28 @@ impl Template for AttachmentMm {
           return = record { taxes = omega arith; return = omega arith; base = omega (arith, ints) };
         } };
 
-    ghost printed_sums_hold = { λ f.
+    ghost printed_lines_add_up = { λ f.
         record {
+          lines_in_the_order_of_the_page = refl;
           line_3d = mm_adjusted_om f;
           line_4_divides_3d_by_1a = refl;
           net_plant_and_1a_are_line_1 = omega (arith, ints);
           lines_3d_3b_and_3c_are_line_3a = omega (arith, ints);
           other_om_and_3d_are_line_3 = omega (arith, ints);
+        } };
+
+    ghost factors_divide_printed_lines = { λ scale f p h.
+        let expense = h.line_9_and_its_parts_are_nearest in
+        let return = h.line_14_and_its_parts_are_nearest in
+        record {
+          line_4_divides_line_3d_by_line_1a = h.line_4_is_nearest_to_its_quotient;
+          line_4b_divides_line_4a_by_line_1 = expense.other_om_is_nearest_to_its_quotient;
+          line_6_divides_line_5_by_line_1 = expense.general_depreciation_is_nearest_to_its_quotient;
+          line_8_divides_line_7_by_line_1 = expense.other_taxes_are_nearest_to_their_quotient;
+          line_9_divides_lines_4a_5_and_7_by_line_1 = expense.line_9_is_nearest_to_the_exact_sum;
+          line_11_divides_line_10_by_line_2 = return.income_taxes_are_nearest_to_their_quotient;
+          line_13_divides_line_12_by_line_2 = return.return_on_rate_base_is_nearest_to_its_quotient;
+          line_14_divides_lines_10_and_12_by_line_2 = return.line_14_is_nearest_to_the_exact_sum;
         } };
 
     ghost om_base_is_within_the_largest_amount = { Prim.search rules };

@@ -1,6 +1,7 @@
 ghost use Rattle.std.specs.Prelude.{◌≡◌, true, IfOk};
 ghost use Rattle.sheets.specs.Factors.{factors_fit, hundredths};
 ghost use Rattle.sheets.specs.Figures.{InRange, blank, figure_in};
+ghost use Rattle.sheets.specs.Printed.{amount_on};
 ghost use Rattle.sheets.specs.Tariff.{PageOneFollows};
 ghost use Rattle.sheets.specs.Sheets.{Gives, complete as is_complete, entered, entered_labelled, finish_outcome, finished};
 
@@ -94,7 +95,8 @@ impl<T: Template> OpenSheet<T> {
         ensures outcome { result ≡ finish_outcome hundredths T.rules self }
         ensures page_two_factors_are_within_1000_percent { IfOk result (λ w. factors_fit hundredths w.factors ≡ true) }
         ensures follows_the_tariff { IfOk result (λ w. PageOneFollows hundredths (T.rules.elements_of self) w.factors) }
-        ensures printed_sums_hold { T.sums self (T.rules.elements_of self) }
+        ensures printed_lines_add_up { T.lines_add_up T.rules self (T.rules.elements_of self) }
+        ensures factors_divide_printed_lines { IfOk result (λ w. T.factors_divide hundredths (amount_on T.rules self) w.factors) }
     {
         let figures = self.figures;
         let factors = finished::<T>(&figures).map_err(|refusal| (refusal, self))?;

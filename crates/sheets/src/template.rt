@@ -1,12 +1,15 @@
-ghost use Rattle.std.specs.Prelude.{◌≡◌, ◌≤◌, length, unsigned_abs};
+ghost use Rattle.std.specs.Prelude.{◌≡◌, ℕ, ◌≤◌, length, unsigned_abs};
 ghost use Rattle.std.specs.List.{slice_get};
 ghost use Rattle.sheets.specs.declared.elements.Elements.{Elements as Cost};
+ghost use Rattle.sheets.specs.declared.factors.Factors.{Factors as Worked};
 ghost use Rattle.sheets.specs.declared.figures.Figures.{Figures as Entered};
 ghost use Rattle.sheets.specs.declared.pricing.Project.{Project as Priced};
 ghost use Rattle.sheets.specs.Elements.{SmallElements};
 ghost use Rattle.sheets.specs.Figures.{InRange};
 ghost use Rattle.sheets.specs.Pricing.{ProjectFits};
+ghost use Rattle.sheets.specs.Printed.{Amounts, amount_on};
 ghost use Rattle.sheets.specs.Rules.{Rules, line_labelled};
+ghost use Rattle.sheets.specs.Tariff.{PageOneFollows};
 
 use crate::elements::Elements;
 use crate::figures::{Figure, Figures};
@@ -17,11 +20,19 @@ pub trait Template {
     /// A line of page 1 that takes a figure.
     type Line: Copy + 'static;
 
+    /// How many lines take a figure.
+    const LINE_COUNT: usize;
+
+    ghost LINE_COUNT: { ℕ };
+
     // the lines, the cost elements and what line 4 multiplies
     ghost rules: { Rules Self.Line };
 
-    // the sums that the printed page shows between its lines
-    ghost sums: { Entered → Cost → Type 0 };
+    // the lines that take a figure, as printed, and the sums between them
+    ghost lines_add_up: { Rules Self.Line → Entered → Cost → Type 0 };
+
+    // what each factor divides, line by line, given the amount on each line by its printed number
+    ghost factors_divide: { ℕ → Amounts → Worked → Type 0 };
 
     /// The lines in their order.
     fn lines() -> &'static [Self::Line]
@@ -30,13 +41,6 @@ pub trait Template {
     /// What is printed as the number of a line.
     fn label(line: Self::Line) -> &'static [u8]
         ensures { result.now ≡ rules.label_of line };
-
-    /// How many lines there are.
-    final fn line_count() -> usize
-        ensures { result ≡ length rules.lines }
-    {
-        Self::lines().len()
-    }
 
     /// The line at a place of the page, from 0.
     final fn line_at(place: usize) -> Option<Self::Line>
@@ -72,9 +76,13 @@ pub trait Template {
     fn om_base(project: &Project) -> i64
         ensures { result ≡ rules.om_base project.now };
 
+    ghost line_count_is_the_number_of_lines: { LINE_COUNT ≡ length rules.lines };
+
     ghost elements_are_small: { (f : Entered) → InRange f → SmallElements (rules.elements_of f) };
 
-    ghost printed_sums_hold: { (f : Entered) → sums f (rules.elements_of f) };
+    ghost printed_lines_add_up: { (f : Entered) → lines_add_up rules f (rules.elements_of f) };
+
+    ghost factors_divide_printed_lines: { (scale : ℕ) (f : Entered) (p : Worked) → PageOneFollows scale (rules.elements_of f) p → factors_divide scale (amount_on rules f) p };
 
     ghost om_base_is_within_the_largest_amount: { (j : Priced) → ProjectFits j → unsigned_abs (rules.om_base j) ≤ 10000000000 };
 }

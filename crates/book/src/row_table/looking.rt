@@ -1,7 +1,8 @@
 ghost use Rattle.std.specs.List.{position};
-ghost use Rattle.std.specs.Prelude.{◌≡◌};
+ghost use Rattle.std.specs.Prelude.{◌≡◌, ◌≤◌, IfOk, IfSome, length};
 ghost use Rattle.journals.specs.Journal.{Held};
 ghost use Rattle.settlement.specs.Looking.{row_at, standing_of, looked};
+ghost use Rattle.book.specs.Rows.{AnswerInRange};
 ghost use Rattle.book.specs.Tables.{book_of, TableGives};
 
 use crate::row_table::RowTable;
@@ -11,7 +12,8 @@ use settlement::{Refusal, RowAnswer, Standing};
 impl RowTable {
     /// Where the book stands.
     pub(crate) fn standing(&self) -> Standing
-        ensures { (held : Held) → result ≡ standing_of (book_of held self.now) }
+        ensures answers_where_the_book_stands { (held : Held) → result ≡ standing_of (book_of held self.now) }
+        ensures at_most_64_rows { length self.now.rows ≤ 64 }
     {
         Standing {
             year: self.year,
@@ -24,7 +26,8 @@ impl RowTable {
 
     /// The row at a position.
     pub(crate) fn row_at(&self, position: usize) -> Option<RowAnswer>
-        ensures { (held : Held) → result ≡ row_at (book_of held self.now) position }
+        ensures answers_the_row_there { (held : Held) → result ≡ row_at (book_of held self.now) position }
+        ensures row_has_kept_cents_and_column_16_in_range { IfSome result AnswerInRange }
     {
         let row = self.in_use().get(position)?;
         Some(row.answer())
@@ -32,7 +35,8 @@ impl RowTable {
 
     /// A project's row.
     pub(crate) fn look(&self, project: i64) -> Result<RowAnswer, Refusal>
-        ensures { TableGives (λ b. looked b project) self.now result self.now }
+        ensures answers_the_projects_row { TableGives (λ b. looked b project) self.now result self.now }
+        ensures row_has_kept_cents_and_column_16_in_range { IfOk result AnswerInRange }
     {
         let project = project_number(project)?;
         let (_, row) = self.row_there(project)?;

@@ -1,4 +1,4 @@
 use Rattle.book.proofs.book.Book.row_at.Goals as goal
 
-pub returns : goal.returns
-returns g c = c.row_at.ensures (g.J.Journal.held c.args.self.now.journal)
+pub returns-clause-answers_the_row_there : goal.returns-clause-answers_the_row_there
+returns-clause-answers_the_row_there g c = c.row_at.ensures.answers_the_row_there (g.J.Journal.held c.args.self.now.journal)

@@ -19,3 +19,6 @@ returns-clause-page_two_factors_are_within_1000_percent g c = (told g c).0
 
 pub returns-clause-follows_the_tariff : goal.returns-clause-follows_the_tariff
 returns-clause-follows_the_tariff g c = (told g c).1
+
+pub returns-clause-factors_divide_printed_lines : goal.returns-clause-factors_divide_printed_lines
+returns-clause-factors_divide_printed_lines g c = g.met.T.Template.factors_divide_printed_lines hundredths c.args.self c.in_ok-factors.factors (told g c).1
