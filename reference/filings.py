@@ -17,6 +17,18 @@ LINES = {
     "CC": ["1", "2", "3", "5", "7", "10", "12"],
 }
 
+# what a sheet says of each number
+WHY = {
+    21: "the template has no line with this label",
+    22: "an amount is 0 to 10,000,000,000, on line 10 also down to -10,000,000,000",
+    23: "a line of the template has no amount yet",
+    24: "a base that is divided by is not above 0",
+    25: "line 3d is not from 0 to line 3",
+    26: "a factor is beyond 1,000 percent",
+    27: "the project's plant or depreciation is out of range",
+    28: "the annual revenue requirement is not 0 to 100,000,000",
+}
+
 
 def enter(template, figures, label, amount):
     """Questions 21 and 22, then the figure."""
@@ -81,19 +93,39 @@ MOST_PROJECTS = 64
 NAMES = {b" MM": "MM", b" CC": "CC"}
 
 
-class LineRefused(Exception):
-    """A filing refused at a line with the number of a question."""
+# what a filing says of its own refusals: three of the numbers have two sentences
+PROJECT_NUMBER = (1, "a project number is 1 to 99,999,999")
+FILE_TOO_LONG = (29, "a filing has at most 65,536 bytes")
+NOT_A_LINE = (29, "a line has 56 bytes and then a newline")
+LETTER_OUT_OF_PLACE = (30, "a T line comes first, then F lines, then P lines")
+UNKNOWN_TEMPLATE = (30, "columns 2-4 of the T line hold MM or CC")
+MALFORMED_FIELD = (31, "a field is empty, is no number or ends before its last column, or something stands beside the fields")
+TOO_MANY_PROJECTS = (32, "a filing has at most 64 projects")
+NO_PROJECT = (32, "a filing has at least one project")
 
-    def __init__(self, line, number):
-        super().__init__(line, number)
+
+class RefusedFor(Refused):
+    """A refusal of a filing's own, with its sentence."""
+
+    def __init__(self, why):
+        number, self.sentence = why
+        super().__init__(number)
+
+
+class LineRefused(Exception):
+    """A filing refused at a line with the number of a question and a sentence."""
+
+    def __init__(self, line, number, sentence):
+        super().__init__(line, number, sentence)
         self.line = line
         self.number = number
+        self.sentence = sentence
 
 
 def number_in(field):
     """A right-justified number, or 31."""
     if not re.fullmatch(rb" *(0|-?[1-9][0-9]*)", field):
-        raise Refused(31)
+        raise RefusedFor(MALFORMED_FIELD)
     return int(field)
 
 
@@ -101,13 +133,13 @@ def label_in(field):
     """A right-justified label without spaces, or 31."""
     label = field.lstrip(b" ")
     if not label or b" " in label:
-        raise Refused(31)
+        raise RefusedFor(MALFORMED_FIELD)
     return label.decode("latin-1")
 
 
 def spaces_in(field):
     if field.strip(b" "):
-        raise Refused(31)
+        raise RefusedFor(MALFORMED_FIELD)
 
 
 def columns_of(line, first, last):
@@ -118,7 +150,7 @@ def columns_of(line, first, last):
 def worked_filing(file):
     """The template, page 1 and the priced projects of a filing."""
     if len(file) > LARGEST_FILE:
-        raise LineRefused(1, 29)
+        raise LineRefused(1, *FILE_TOO_LONG)
     template, figures, page, factors, rows = None, {}, None, None, []
     place, at = 0, 0
     while at < len(file) or template is None:
@@ -127,13 +159,15 @@ def worked_filing(file):
         at += LINE_BYTES
         try:
             if place == 1 and not line:
-                raise Refused(30)
+                raise RefusedFor(LETTER_OUT_OF_PLACE)
             if len(line) < LINE_BYTES or line[56:] != b"\n" or b"\n" in line[:56]:
-                raise Refused(29)
+                raise RefusedFor(NOT_A_LINE)
             letter = line[0:1]
             if place == 1:
-                if letter != b"T" or columns_of(line, 2, 4) not in NAMES:
-                    raise Refused(30)
+                if letter != b"T":
+                    raise RefusedFor(LETTER_OUT_OF_PLACE)
+                if columns_of(line, 2, 4) not in NAMES:
+                    raise RefusedFor(UNKNOWN_TEMPLATE)
                 spaces_in(columns_of(line, 5, 56))
                 template = NAMES[columns_of(line, 2, 4)]
             elif letter == b"F" and factors is None:
@@ -148,18 +182,20 @@ def worked_filing(file):
                 depreciation = number_in(columns_of(line, 37, 48))
                 spaces_in(columns_of(line, 49, 56))
                 if len(rows) == MOST_PROJECTS:
-                    raise Refused(32)
+                    raise RefusedFor(TOO_MANY_PROJECTS)
                 if factors is None:
                     page, factors = finish(template, figures)
                 if not 1 <= number <= 99_999_999:
-                    raise Refused(1)
+                    raise RefusedFor(PROJECT_NUMBER)
                 rows.append((number, price(template, factors, gross, accumulated, depreciation)))
             else:
-                raise Refused(30)
+                raise RefusedFor(LETTER_OUT_OF_PLACE)
+        except RefusedFor as refused:
+            raise LineRefused(place, refused.number, refused.sentence) from None
         except Refused as refused:
-            raise LineRefused(place, refused.number) from None
+            raise LineRefused(place, refused.number, WHY[refused.number]) from None
     if not rows:
-        raise LineRefused(place + 1, 32)
+        raise LineRefused(place + 1, *NO_PROJECT)
     return template, page, factors, rows
 
 

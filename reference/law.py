@@ -127,8 +127,10 @@ def check_law(book, tally, accepted):
     check(projects == tally.projects, "rows_are_the_filed_projects", projects, tally.projects)
     charged, paid_or_left = tally.charges(), tally.payments + book.till()
     check(charged == paid_or_left, "charges_equal_payments_plus_till", charged, paid_or_left)
+    check(len(book.rows) <= 64, "book_has_at_most_64_rows", len(book.rows))
     for row in book.rows:
         check_lifetime(row, tally)
+        check_row(row)
     if accepted == "pay":
         check_shares(book, tally)
     if accepted == "close":
@@ -149,6 +151,22 @@ def check_lifetime(row, tally):
     due = 100 * tally.closed_actuals[row.project] + tally.interest[row.project]
     check(received == due, "lifetimes_add_up", row, received, due)
     check(abs(row.kept) <= 50, "lifetimes_add_up: kept", row)
+
+
+def check_row(row):
+    """What a caller may rely on of a row that it looks at."""
+    check(abs(row.kept) <= 50, "row_has_kept_cents_and_column_16_in_range: kept", row)
+    if row.requirement is not None:
+        column = row.requirement + row.due_now
+        check(0 <= column <= 100_000_000, "row_has_kept_cents_and_column_16_in_range: column 16", row)
+
+
+def check_rate(tally, forecast, rate):
+    """The posted rate times the forecast is as near to 10,000 times the total as can be, a half upward."""
+    exact, posted = 10_000 * tally.total(), rate * forecast
+    off = 2 * abs(exact - posted)
+    nearest = off < forecast or off == forecast and posted > exact
+    check(nearest, "usage_rate_is_nearest_to_10000_times_the_total_over_the_forecast", exact, forecast, rate)
 
 
 def check_shares(book, tally):
@@ -193,4 +211,6 @@ class Run:
             raise
         self.tally.told(name, arguments, answer)
         check_law(self.book, self.tally, name)
+        if name == "post":
+            check_rate(self.tally, *arguments, answer)
         return answer

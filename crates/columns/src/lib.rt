@@ -4,8 +4,6 @@
 
 mod reading;
 mod refusal;
-#[cfg(test)]
-mod tests;
 mod writing;
 
 pub use reading::{after_spaces, read_number};

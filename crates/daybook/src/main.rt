@@ -1,44 +1,30 @@
 //! A daybook answered: one entry a line on standard input, each with its answer on standard output.
 #![tactic(auto)]
 
-mod daybook;
-mod desk;
-mod journal;
-mod lines;
+ghost use Rattle.std.specs.Prelude.{◌≡◌, ◌<◌, ◌↔◌, IfSome, IsSome, IsTrue, codes, length, string_bytes};
+ghost use Rattle.std.specs.List.{All};
+
 mod usage;
 
-use anyhow::{Context, Result};
-use daybook::{Daybook, UNWRITTEN};
-use lines::Lines;
-use std::io::{BufReader, BufWriter, Read, Write};
+use anyhow::Result;
+use desk::answer_input;
 use std::{env, io};
 
-/// How many bytes are read and written at once.
-const BLOCK: usize = 65_536;
-
-/// Answers the daybook of an input. What was answered is written, also where a later line cannot be
-/// read or answered.
-fn answer_input<R: Read + Drop>(
-    rt: &(impl Print + AllocGlobal),
-    input: R,
-    explain: bool,
-) -> Result<()> {
-    let input = BufReader::with_capacity(rt.alloc(), BLOCK, input)?;
-    let mut lines = Lines::new(rt.alloc(), input)?;
-    let out = BufWriter::with_capacity(rt.alloc(), BLOCK, io::writer(rt))?;
-    let mut daybook = Daybook::new(rt.alloc(), out, explain);
-    let answered = daybook.answer_all(&mut lines);
-    daybook.flush().context(UNWRITTEN)?;
-    answered
+/// Whether the words behind the program's name ask for answers in words too, or nothing where one of them is not `--explain`.
+fn explains(words: &[String]) -> Option<bool>
+    ensures no_other_word_is_known { IsSome result ↔ All (λ word. string_bytes word ≡ codes "--explain") words.now }
+    ensures asks_where_there_is_a_word { IfSome result (λ explain. IsTrue explain ↔ (0 < length words.now)) }
+{
+    if !words.iter().all(|word| word.as_str() == "--explain") {
+        return None;
+    }
+    Some(!words.is_empty())
 }
 
 fn main(rt: HostRuntime) -> Result<()> {
-    let mut explain = false;
-    for word in env::args(&rt)?.skip(1) {
-        if word.as_str() != "--explain" {
-            return Ok(usage::show(&rt)?);
-        }
-        explain = true;
+    let words: Vec<String> = env::args(&rt)?.skip(1).collect(rt.alloc())?;
+    match explains(&words) {
+        Some(explain) => Ok(answer_input(rt.alloc(), rt.stdin(), io::writer(&rt), explain)?),
+        None => Ok(usage::show(&rt)?),
     }
-    answer_input(&rt, rt.stdin(), explain)
 }

@@ -22,7 +22,7 @@ An entry is a line of words with commas between them:
   close,holding,flat,RATE
   close,holding,quarter,FIRSTQUARTER,RATE,RATE,...
 
-Empty lines and lines that begin with # are passed over, as are commas at the end of a line.
+Empty lines and lines that begin with # or \"# are passed over, as are commas at the end of a line.
 ";
 
 pub fn show(rt: &impl Print) -> io::Result<()> {

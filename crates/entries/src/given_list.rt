@@ -55,13 +55,15 @@ impl<'a> GivenRates<'a> {
 }
 
 impl<'a> ListEntry<'a> {
-    ghost use Rattle.std.specs.Prelude.{◌≡◌, IfOk};
+    ghost use Rattle.std.specs.Prelude.{◌≡◌, IfOk, OnErr};
     ghost use Rattle.rates.specs.Named.{named_rates};
-    ghost use Rattle.entries.specs.Lists.{rates_given};
+    ghost use Rattle.entries.specs.Lists.{HasQuarterRates, rates_given};
 
-    /// The list that is named.
+    /// The list that is named: rates in ten-millionths a month. `AllocError` comes only where there is no memory for the rates
+    /// of a quarter list.
     pub fn named(&self, alloc: Global) -> Result<NamedList, AllocError>
-        ensures { IfOk result (λ list. named_rates list ≡ rates_given self.now) }
+        ensures list_has_the_rates_given { IfOk result (λ list. named_rates list ≡ rates_given self.now) }
+        ensures want_of_memory_comes_only_with_the_rates_of_a_quarter_list { OnErr result (HasQuarterRates self.now) }
     {
         Ok(match &self.list {
             GivenList::Flat(rate) => {

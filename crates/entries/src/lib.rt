@@ -12,4 +12,4 @@ mod words;
 pub use entry::{Entry, MeterReading};
 pub use given_list::{GivenList, GivenRates, ListEntry};
 pub use journal_kind::JournalKind;
-pub use line::{Line, read_line};
+pub use line::{Line, is_passed_over, read_line};

@@ -26,24 +26,25 @@ fn without_cr(line: &str) -> &str
 fn without_commas(line: &str) -> &str
     ensures { result.now ≡ without_commas_of line.now }
 {
-    match line.strip_suffix(',') {
-        Some(front) => without_commas(front),
-        None => line,
+    let mut rest = line;
+    while let Some(front) = rest.strip_suffix(',') {
+        rest = front;
     }
+    rest
 }
 
-/// Whether a line is passed over.
-fn is_passed_over(line: &str) -> bool
-    ensures { result ≡ passed_over line.now }
+/// Whether a line, given in bytes, is passed over: an empty one, or a remark.
+pub fn is_passed_over(line: &[u8]) -> bool
+    ensures true_for_an_empty_line_and_a_remark { result ≡ passed_over line.now }
 {
-    matches!(line.as_bytes(), [] | [b'#', ..] | [b'"', b'#', ..])
+    matches!(line, [] | [b'#', ..] | [b'"', b'#', ..])
 }
 
 /// What a line is whose end has nothing to drop.
 fn read_text(text: &str) -> Line<'_>
     ensures { result ≡ text_in text.now }
 {
-    if is_passed_over(text) {
+    if is_passed_over(text.as_bytes()) {
         return Line::Passed;
     }
     match read_entry(text) {

@@ -7,7 +7,7 @@ use crate::journal_kind::JournalKind;
 use crate::numbers::{number, number_u16, number_u32, two_numbers};
 use crate::words::split_word;
 
-/// The most records that a journal of entries may have room for.
+/// The most records that an entry journal may have room for.
 const MOST_RECORDS: u32 = 1_000_000;
 
 fn read_journal(words: &str) -> Option<JournalKind>

@@ -1,10 +1,12 @@
 -- The lines of a filing, as a reader takes them from the bytes.
-use Rattle.std.proofs.Common.{◌≡◌, ℕ, suc, ◌<◌, ◌≤◌, Bool, true, false, not, eqb, List, [], ◌∷◌, length, get_or, take, drop, sym, ap, ⊎_elim, arith, false-eqb}
+use Rattle.std.proofs.Common.{◌≡◌, ℕ, suc, ◌*◌, ◌<◌, ◌≤◌, Bool, true, false, not, eqb, List, [], ◌∷◌, length, get_or, take, drop, sym, ap, ◌∙◌, ⊎_elim, arith, false-eqb}
 use Rattle.std.specs.List.{IsAnyAnswer}
 use Rattle.std.proofs.lemmas.List.Folds.{list_any_at, list_any_none}
-use Rattle.std.proofs.lemmas.List.{get_or_past, length-drop, length-take}
+use Rattle.std.proofs.lemmas.List.{get_or-take, get_or_past, length-drop, length-take, take-take}
 use Rattle.std.proofs.lemmas.Bool.{and_left, and_parts, cases_lt, eqb-true, ne_eqb}
-use Rattle.filing.specs.Lines.{cut, line_count, lines_of, whole, without}
+use Rattle.filing.specs.declared.reader.FilingReader.{FilingReader}
+use Rattle.filing.specs.declared.reader.Record.{Record}
+use Rattle.filing.specs.Lines.{PartOf, StandsBeforeTheFirstLine, cut, line_count, lines_of, next_line, rest_of, unread, whole, without}
 
 -- what `contains` answers
 pub without_from : (b : ℕ) (bs : List ℕ) (r : Bool) → IsAnyAnswer (λ y t. eqb y b ≡ t) bs r → not r ≡ without b bs
@@ -35,3 +37,18 @@ unfolding lines_of
 first_line rest some =
     let n : line_count rest ≡ suc (line_count (drop 57 rest)) = omega (arith, length-drop 57 rest, false-eqb _ 0 some) in
     ap (λ k. cut k rest) n
+
+-- the lines of a file are those that a reader before the first line has not read
+pub unread_at_first : (file : List ℕ) (reader : FilingReader) → StandsBeforeTheFirstLine file reader → unread reader ≡ lines_of file
+unread_at_first file reader s = λ i. lines_of (drop (57 * s.no_line_is_read i) (s.reads_the_file i))
+
+-- the columns of the line that comes next
+pub columns_of_next : (reader : FilingReader) → take 56 (next_line reader) ≡ take 56 (drop (57 * reader.lines) reader.file.now)
+columns_of_next reader = take-take 56 57 (rest_of reader) (omega arith)
+
+-- the letter of a record is the first byte of the line that comes next
+pub letter_of_next : (reader : FilingReader) (r : Record) → PartOf reader r → get_or (next_line reader) 0 0 ≡ r.letter
+letter_of_next reader r p =
+    sym (get_or-take 56 (next_line reader) 0 0 (omega arith))
+    ∙ ap (λ bytes. get_or bytes 0 0) (sym p.bytes_are_the_next_line)
+    ∙ sym p.letter_is_its_first_byte

@@ -33,6 +33,14 @@ pub record Filed : Type 0 where
 abbrev pub filed_as : Figures → Factors → List Row → Filed
 filed_as f p rows = record { figures = f; factors = p; rows = rows }
 
+-- the sheet of a filing
+abbrev pub worked_on : Filed → Worked
+worked_on p = record { figures = p.figures; factors = p.factors }
+
+-- a row has the columns that pricing its project on these factors gives
+abbrev pub IsPricedOn : {L : Type 0} → Rules L → Factors → Row → Type 0
+IsPricedOn t p row = priced hundredths p t.om_base row.project ≡ Ok row.columns
+
 -- F lines have been read so far, or P lines too
 pub data Stage : Type 0 where
   entering : Figures → Stage
@@ -59,7 +67,7 @@ by_finish (Err refused) = Err (Sheet refused.0)
 -- page 1 is finished at the first P line
 abbrev pub page_one_at : {L : Type 0} → Rules L → Stage → Result Worked Refusal
 page_one_at t (entering f) = by_finish (finish_outcome hundredths t f)
-page_one_at t (pricing p) = Ok (record { figures = p.figures; factors = p.factors })
+page_one_at t (pricing p) = Ok (worked_on p)
 
 -- the projects priced so far
 abbrev pub rows_at : Stage → List Row

@@ -4,6 +4,5 @@ pub mod Lines
 pub mod Fields
 pub mod Rows
 pub mod Filed
-pub mod Reading
 pub mod Filing
 pub mod Records

@@ -5,7 +5,7 @@ use Rattle.filing.specs.declared.reader.FilingReader.{FilingReader}
 use Rattle.filing.specs.declared.reader.Record.{Record}
 use Rattle.filing.specs.declared.refusal.LineRefusal.{LineRefusal}
 use Rattle.filing.specs.declared.refusal.Refusal.{Refusal}
-use Rattle.filing.specs.declared.refusal.Refusal.TheVariants.{NotALine}
+use Rattle.filing.specs.declared.refusal.Refusal.TheVariants.{FileTooLong, NotALine}
 
 -- no byte is b
 abbrev pub without : ℕ → List ℕ → Bool
@@ -36,33 +36,42 @@ short_enough file = nat_le (length file) 65536
 abbrev pub at_line : ℕ → Refusal → LineRefusal
 at_line n why = record { line = n; refusal = why }
 
--- what a reader has not read yet, and the line that comes next
+-- what a reader has not read yet, as bytes and as lines, and the line that comes next
+abbrev pub rest_of : FilingReader → List ℕ
+rest_of reader = drop (57 * reader.lines) reader.file.now
+
 abbrev pub unread : FilingReader → List (List ℕ)
-unread reader = lines_of reader.rest.now
+unread reader = lines_of (rest_of reader)
 
 abbrev pub next_line : FilingReader → List ℕ
-next_line reader = take 57 reader.rest.now
+next_line reader = take 57 (rest_of reader)
 
--- a reader starts before the first line
+-- a reader before the first line of a file
 pub record StandsBeforeTheFirstLine (file : List ℕ) (reader : FilingReader) : Type 0 where
-  pub reads_the_file : reader.rest.now ≡ file
+  pub reads_the_file : reader.file.now ≡ file
   pub no_line_is_read : reader.lines ≡ 0
+
+-- a file that is short enough is read from its first line on
+abbrev pub OpensTheFile : List ℕ → Result FilingReader LineRefusal → Type 0
+OpensTheFile file (Ok reader) = (short_enough file ≡ true) × StandsBeforeTheFirstLine file reader
+OpensTheFile file (Err e) = (short_enough file ≡ false) × (e ≡ at_line 1 FileTooLong)
 
 -- a record lends its bytes from the file and says where they stand
 pub record PartOf (reader : FilingReader) (r : Record) : Type 0 where
+  pub bytes_are_the_files_56_from_the_offset_on : r.bytes.now ≡ take 56 (drop r.offset reader.file.now)
+  pub offset_counts_57_bytes_for_each_line_before : r.offset ≡ 57 * reader.lines
   pub bytes_are_the_next_line : r.bytes.now ≡ take 56 (next_line reader)
   pub letter_is_its_first_byte : r.letter ≡ slice_index r.bytes.now 0
-  pub stands_at_its_offset : r.offset ≡ 57 * reader.lines
   pub has_the_next_number : r.line ≡ reader.lines + 1
 
 -- the reader stands one line further in the same file
 pub record OneLineOn (before after : FilingReader) : Type 0 where
-  pub rest_follows_the_line : after.rest.now ≡ drop 57 before.rest.now
-  pub one_line_less : unread before ≡ next_line before ∷ unread after
+  pub same_file : after.file.now ≡ before.file.now
   pub one_line_more : after.lines ≡ before.lines + 1
+  pub one_line_less : unread before ≡ next_line before ∷ unread after
 
 -- what comes next, and where the reader stands after it
 abbrev pub AnswersTheNextLine : FilingReader → Result (Option Record) LineRefusal → FilingReader → Type 0
 AnswersTheNextLine before (Ok (Some r)) after = (whole (next_line before) ≡ true) × PartOf before r × OneLineOn before after
 AnswersTheNextLine before (Ok None) after = (unread before ≡ []) × (after ≡ before)
-AnswersTheNextLine before (Err e) after = (whole (next_line before) ≡ false) × (unread before ≡ next_line before ∷ lines_of (drop 57 before.rest.now)) × (e ≡ at_line (before.lines + 1) NotALine) × (after ≡ before)
+AnswersTheNextLine before (Err e) after = (whole (next_line before) ≡ false) × (unread before ≡ next_line before ∷ lines_of (drop 57 (rest_of before))) × (e ≡ at_line (before.lines + 1) NotALine) × (after ≡ before)

@@ -10,7 +10,8 @@ mod refusal;
 mod sheet_lines;
 
 pub use filing::Filing;
-pub use filing::calls::{LONGEST, read_filing, read_pages};
+pub use filing::calls::{read_filing, read_pages};
 pub use pages::Pages;
 pub use priced_projects::{PricedProject, PricedProjects};
+pub use reader::{FilingReader, LONGEST, Record};
 pub use refusal::{LineRefusal, Refusal};

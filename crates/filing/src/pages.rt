@@ -11,8 +11,8 @@ pub(crate) mod calls;
 /// Both pages of a filing: the sheet whose page 1 is worked out, and the projects priced on it.
 #[derive(Drop)]
 pub struct Pages<T: Template> {
-    pub sheet: WorkedSheet<T>,
-    pub projects: PricedProjects,
+    sheet: WorkedSheet<T>,
+    projects: PricedProjects,
 }
 
 impl<T: Template> Model for Pages<T> {
@@ -22,11 +22,33 @@ impl<T: Template> Model for Pages<T> {
     ghost Value = { Filed };
 
     ghost view = { λ p. filed_as p.sheet.figures p.sheet.factors (rows_of p.projects) };
+
+    ghost use Rattle.std.specs.List.{All};
+    ghost use Rattle.filing.specs.Filed.{IsPricedOn};
+
+    ghost invariant = { λ p. All (IsPricedOn T.rules p.sheet.factors) (rows_of p.projects) };
 }
 
 impl<T: Template> Pages<T> {
     ghost use Rattle.std.specs.Prelude.{◌≡◌};
-    ghost use Rattle.filing.specs.Filed.{Leaves, by_letter, entering, pricing, project_taken, seen};
+    ghost use Rattle.std.specs.List.{All};
+    ghost use Rattle.filing.specs.Filed.{IsPricedOn, Leaves, by_letter, entering, pricing, project_taken, seen, worked_on};
+    ghost use Rattle.filing.specs.Rows.{rows_of};
+
+    /// The sheet whose page 1 is worked out.
+    pub fn sheet(&self) -> &WorkedSheet<T>
+        ensures sheet_is_that_of_the_filing { result.now ≡ worked_on self.now }
+    {
+        &self.sheet
+    }
+
+    /// The projects of page 2, 1 to 64 of them, each priced on this filing's own sheet.
+    pub fn projects(&self) -> &PricedProjects
+        ensures rows_are_those_of_the_filing { rows_of result.now ≡ self.now.rows }
+        ensures each_row_is_priced_on_the_filings_own_factors { All (IsPricedOn T.rules self.now.factors) self.now.rows }
+    {
+        &self.projects
+    }
 
     /// Finishes page 1 at the first P line, and prices its project.
     fn open(sheet: OpenSheet<T>, line: &[u8; 56]) -> Result<Pages<T>, Refusal>

@@ -2,15 +2,18 @@ ghost use Rattle.std.specs.Prelude.{◌≡◌, ◌+◌, ◌*◌, ◌≤◌, leng
 
 use crate::refusal::{LineRefusal, Refusal};
 
-/// A line of a filing: its letter, its 56 bytes as a part of the file, where they begin in the
-/// file, and the line's number from 1.
+/// The most bytes that a filing may have.
+pub const LONGEST: usize = 65_536;
+
+/// A line of a filing: its letter, its 56 bytes as a part of the file, at which byte of the file they
+/// begin, counted from 0, and the line's number from 1.
 #[derive(Clone, Copy)]
-pub(crate) struct Record<'a> {
+pub struct Record<'a> {
     // A `char`, matched by the letters of the file format: any other byte is refused where it stands.
-    pub(crate) letter: char,
-    pub(crate) bytes: &'a [u8; 56],
-    pub(crate) offset: usize,
-    pub(crate) line: u16,
+    pub letter: char,
+    pub bytes: &'a [u8; 56],
+    pub offset: usize,
+    pub line: u16,
 }
 
 impl Record<'_> {
@@ -33,28 +36,27 @@ impl Record<'_> {
     }
 }
 
-/// A reader over the lines of a filing: the bytes that no line was read of, and how many lines
-/// were read.
+/// A reader over the lines of a filing: the file, and how many of its lines were read.
 #[derive(Drop)]
-pub(crate) struct FilingReader<'a> {
-    rest: &'a [u8],
+pub struct FilingReader<'a> {
+    file: &'a [u8],
     lines: u16,
-    ghost short: { 57 * lines + length rest.now ≤ 65536 },
+    ghost file_is_short_enough: { length file.now ≤ 65536 },
+    ghost lines_are_in_the_file: { 57 * lines ≤ length file.now },
 }
 
 impl<'a> FilingReader<'a> {
-    ghost use Rattle.std.specs.Prelude.{true, false, take, drop, IfSome, MatchOption};
-    ghost use Rattle.filing.specs.Lines.{AnswersTheNextLine, StandsBeforeTheFirstLine, next_line, whole};
+    ghost use Rattle.std.specs.Prelude.{true, false, take, MatchOption};
+    ghost use Rattle.filing.specs.Lines.{AnswersTheNextLine, OpensTheFile, PartOf, next_line, rest_of, whole};
 
-    /// A reader at the start of a filing.
-    pub(crate) fn new(file: &'a [u8]) -> FilingReader<'a>
-        requires { length file.now ≤ 65536 }
-        ensures { StandsBeforeTheFirstLine file.now result }
+    /// A reader before the first line of a filing. A file of more than 65,536 bytes is refused by 29, at line 1.
+    pub fn new(file: &'a [u8]) -> Result<FilingReader<'a>, LineRefusal>
+        ensures stands_before_the_first_line_or_refuses_a_file_too_long { OpensTheFile file.now result }
     {
-        FilingReader {
-            rest: file,
-            lines: 0,
+        if file.len() > LONGEST {
+            return Err(Refusal::FileTooLong.at_line(1));
         }
+        Ok(FilingReader { file, lines: 0 })
     }
 
     /// The number of the next line, from 1.
@@ -64,39 +66,60 @@ impl<'a> FilingReader<'a> {
         self.lines + 1
     }
 
-    /// The columns of the next line, and what follows it.
-    fn next_line(&self) -> Option<(&'a [u8; 56], &'a [u8])>
-        ensures whole_line { MatchOption result (whole (next_line self.now) ≡ false) (λ line. (whole (next_line self.now) ≡ true) × (line.0.now ≡ take 56 (next_line self.now))) }
-        ensures rest_follows { IfSome result (λ line. line.1.now ≡ drop 57 self.now.rest.now) }
+    /// Where in the file the next line begins.
+    fn offset(&self) -> usize
+        ensures { result ≡ 57 * self.now.lines }
     {
-        let (line, rest) = self.rest.split_first_chunk::<57>()?;
+        57 * usize::from(self.lines)
+    }
+
+    /// The bytes that no line was read of.
+    fn rest(&self) -> &'a [u8]
+        ensures { result.now ≡ rest_of self.now }
+    {
+        &self.file[self.offset()..]
+    }
+
+    /// The columns of the next line.
+    fn columns(&self) -> Option<&'a [u8; 56]>
+        ensures { MatchOption result (whole (next_line self.now) ≡ false) (λ columns. (whole (next_line self.now) ≡ true) × (columns.now ≡ take 56 (next_line self.now))) }
+    {
+        let line = self.rest().first_chunk::<57>()?;
         // Never none: a line of 57 bytes has a first 56.
         let columns = line.first_chunk()?;
         if line[56] != b'\n' || columns.contains(&b'\n') {
             return None;
         }
-        Some((columns, rest))
+        Some(columns)
     }
 
-    /// The next line, or nothing at the end of the file; a refusal leaves the reader where it is.
-    // No iterator: its item would be a `Result`, which each loop had to take apart before it looks at the letter.
-    pub(crate) fn next_record(&mut self) -> Result<Option<Record<'a>>, LineRefusal>
-        ensures { AnswersTheNextLine self.old result self.new }
+    /// The record of the next line, whose columns are these.
+    #[tactic(auto, using(crate::proofs::Lines::columns_of_next))]
+    fn record(&self, columns: &'a [u8; 56]) -> Record<'a>
+        requires { columns.now ≡ take 56 (next_line self.now) }
+        ensures { PartOf self.now result }
     {
-        if self.rest.is_empty() {
+        Record {
+            letter: char::from(columns[0]),
+            bytes: columns,
+            offset: self.offset(),
+            line: self.line(),
+        }
+    }
+
+    /// The next line, or nothing at the end of the file. What is no line is refused by 29, at its number; the reader
+    /// then stays where it is.
+    // No iterator: its item would be a `Result`, which each loop had to take apart before it looks at the letter.
+    pub fn next_record(&mut self) -> Result<Option<Record<'a>>, LineRefusal>
+        ensures answers_the_next_line_with_its_place_and_stays_at_a_refusal { AnswersTheNextLine self.old result self.new }
+    {
+        if self.rest().is_empty() {
             return Ok(None);
         }
         let line = self.line();
-        let (bytes, rest) = self.next_line().ok_or(Refusal::NotALine.at_line(line))?;
-        // Worked out and not counted: a record says where it stands in the file.
-        let offset = 57 * usize::from(self.lines);
-        self.rest = rest;
+        let bytes = self.columns().ok_or(Refusal::NotALine.at_line(line))?;
+        let record = self.record(bytes);
         self.lines = line;
-        Ok(Some(Record {
-            letter: char::from(bytes[0]),
-            bytes,
-            offset,
-            line,
-        }))
+        Ok(Some(record))
     }
 }

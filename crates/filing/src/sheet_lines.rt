@@ -1,6 +1,6 @@
-ghost use Rattle.std.specs.Prelude.{◌≡◌, pos};
+ghost use Rattle.std.specs.Prelude.{◌≡◌, pos, IfOk};
 ghost use Rattle.questions.specs.Questions.{within as is_within};
-ghost use Rattle.filing.specs.Filed.{Leaves, entering, figure_taken, page_one_at, priced_row, seen};
+ghost use Rattle.filing.specs.Filed.{IsPricedOn, Leaves, entering, figure_taken, page_one_at, priced_row, seen};
 ghost use Rattle.filing.specs.Rows.{row_of};
 
 use crate::fields::{FiledFigure, FiledProject, read_figure};
@@ -42,7 +42,8 @@ pub(crate) fn price<T: Template>(
     sheet: &WorkedSheet<T>,
     filed: FiledProject,
 ) -> Result<PricedProject, Refusal>
-    ensures { seen row_of result ≡ priced_row T.rules sheet.now.factors filed }
+    ensures prices_as_the_filing_says { seen row_of result ≡ priced_row T.rules sheet.now.factors filed }
+    ensures has_the_columns_priced_on_the_sheet { IfOk result (λ p. IsPricedOn T.rules sheet.now.factors (row_of p)) }
 {
     let FiledProject { number, project } = filed;
     if !number_fits(number) {

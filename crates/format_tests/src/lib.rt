@@ -1,4 +1,4 @@
-//! Tests of the formats: filings, the lines of a daybook and their answers.
+//! Tests of the formats: numbers in columns, filings and the text of their pages, the lines of a daybook and their answers.
 #![tactic(auto)]
 
 #[cfg(test)]
@@ -7,3 +7,7 @@ mod answer_texts;
 mod filings;
 #[cfg(test)]
 mod lines;
+#[cfg(test)]
+mod numbers_in_columns;
+#[cfg(test)]
+mod page_texts;

@@ -37,7 +37,7 @@ amount_sum return_charge rows = refl
 amount_sum depreciation rows = refl
 amount_sum requirement rows = refl
 
-sums_within : (rows : List PageLine) → length rows ≤ 64 → AllByRecursion (Within 120000000000) rows → Within 7680000000000 (sums_of rows)
+pub sums_within : (rows : List PageLine) → length rows ≤ 64 → AllByRecursion (Within 120000000000) rows → Within 7680000000000 (sums_of rows)
 sums_within rows few h = record {
   project = omega arith;
   amounts = λ a. subst (λ n. nat_abs n ≤ 7680000000000) (sym (amount_sum a rows)) (omega (arith, sum_from a (pos 0) rows h));

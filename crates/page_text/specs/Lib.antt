@@ -1,4 +1,5 @@
 pub mod Outcomes
+pub mod Refusals
 pub mod Rows
 pub mod Fields
 pub mod Lines

@@ -3,6 +3,7 @@ use Rattle.std.specs.Prelude.{ℕ, List, [], ◌∷◌, ◌++◌, ℤ, pos, ◌+
 use Rattle.std.specs.List.{flat_map}
 use Rattle.page_text.specs.Fields.{PageField, fields_text, newline}
 use Rattle.page_text.specs.Rows.{PageLine}
+use Rattle.page_text.specs.declared.line.Sums.{Sums}
 
 -- a number in some columns
 abbrev pub in_columns : ℕ → ℤ → PageField
@@ -34,6 +35,16 @@ sums_of rows = record {
   annual_return_charge = sum_of (λ l. l.annual_return_charge) rows;
   depreciation_expense = sum_of (λ l. l.depreciation_expense) rows;
   annual_revenue_requirement = sum_of (λ l. l.annual_revenue_requirement) rows;
+}
+
+-- the line that these sums are printed as
+abbrev pub sums_line : Sums → PageLine
+sums_line s = record {
+  project_number = pos 0;
+  annual_expense_charge = s.annual_expense_charge;
+  annual_return_charge = s.annual_return_charge;
+  depreciation_expense = s.depreciation_expense;
+  annual_revenue_requirement = s.annual_revenue_requirement;
 }
 
 -- a line for each row, and last the line of the sums

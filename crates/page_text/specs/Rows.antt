@@ -1,7 +1,8 @@
 -- The rows of a page as plain lists.
 use Rattle.std.specs.Prelude.{cond, List, [], ◌∷◌, ◌++◌, length, ℤ, Ok, Err, Result, nat_lt}
-use Rattle.rows.specs.declared.Full.{Full}
 use Rattle.page_text.specs.Outcomes.{Outcome}
+use Rattle.page_text.specs.declared.refusal.Refusal.{Refusal}
+use Rattle.page_text.specs.declared.refusal.Refusal.TheVariants.{TooManyProjects}
 use Rattle.page_text.specs.declared.row.PageRow.{PageRow}
 
 -- the numbers of a line of the pages
@@ -22,8 +23,8 @@ row_of r = record {
 }
 
 -- one row more after the others; where they are 64, they stay as they are
-abbrev pub pushed : List PageLine → PageLine → Outcome (Result (Unit {0}) Full) (List PageLine)
+abbrev pub pushed : List PageLine → PageLine → Outcome (Result (Unit {0}) Refusal) (List PageLine)
 pushed rows row =
     cond (nat_lt (length rows) 64)
     (record { answer = Ok tt; after = rows ++ (row ∷ []) })
-    (record { answer = Err (record {}); after = rows })
+    (record { answer = Err TooManyProjects; after = rows })

@@ -7,13 +7,12 @@ mod line;
 mod page;
 mod page_rows;
 mod refusal;
+mod refusal_line;
 mod row;
-#[cfg(test)]
-mod tests;
 mod written;
 
 pub use page::{LONGEST_TEXT, write_rows};
 pub use page_rows::PageRows;
-pub use refusal::write_refusal;
+pub use refusal::Refusal;
+pub use refusal_line::write_refusal;
 pub use row::PageRow;
-pub use rows::Full;

@@ -1,8 +1,7 @@
-ghost use Rattle.std.specs.Prelude.{◌≡◌, ◌+◌, ◌≤◌, ◌++◌, length};
+ghost use Rattle.std.specs.Prelude.{◌≡◌, ◌+◌, ◌≤◌, ◌++◌, length, map};
 ghost use Rattle.page_text.specs.Fields.{fields_text, fields_width, newline};
-ghost use Rattle.page_text.specs.Lines.{in_columns, line_fields, line_text, sum_of, sums_of};
+ghost use Rattle.page_text.specs.Lines.{line_fields, line_text, sums_line, sums_of};
 ghost use Rattle.page_text.specs.Outcomes.{Gives, printed};
-ghost use Rattle.page_text.specs.ReadBack.{Amount, amount_in};
 ghost use Rattle.page_text.specs.Rows.{row_of};
 
 use crate::field::Field;
@@ -29,32 +28,47 @@ fn row_fields(row: &PageRow) -> [Field; 5]
     ]
 }
 
-/// The sum of an amount of the rows, in its columns.
-#[tactic(auto, using(crate::proofs::Adding::sum_small))]
-fn sum_field<F: Fn(&PageRow) -> i64>(rows: &PageRows, amount_of: F) -> Field
-    ghost a: { Amount }
-    requires callable { F.IsAlwaysCallable amount_of }
-    requires reads { (row : _) (n : _) → F.post amount_of row n → n ≡ amount_in a (row_of row.now) }
-    ensures { result ≡ in_columns 14 (sum_of (amount_in a) rows.now) }
+/// The sums of the rows' amounts, in dollars.
+#[derive(Clone, Copy)]
+struct Sums {
+    annual_expense_charge: i64,
+    annual_return_charge: i64,
+    depreciation_expense: i64,
+    annual_revenue_requirement: i64,
+}
+
+/// Adds up the amounts of rows.
+fn add_up(rows: &[PageRow]) -> Sums
+    requires at_most_64_rows { length rows.now ≤ 64 }
+    ensures { sums_line result ≡ sums_of (map row_of rows.now) }
 {
-    // A loop: the check finds by itself what it adds, and that the sum fits.
-    let mut sum = 0;
-    for row in rows.as_slice() {
-        sum += amount_of(row);
+    let mut sums = Sums {
+        annual_expense_charge: 0,
+        annual_return_charge: 0,
+        depreciation_expense: 0,
+        annual_revenue_requirement: 0,
+    };
+    for row in rows {
+        sums.annual_expense_charge += row.annual_expense_charge;
+        sums.annual_return_charge += row.annual_return_charge;
+        sums.depreciation_expense += row.depreciation_expense;
+        sums.annual_revenue_requirement += row.annual_revenue_requirement;
     }
-    Field::in_columns::<AMOUNT_COLUMNS>(sum)
+    sums
 }
 
 /// The fields of the line of the sums: project number 0 and the sum of each column.
+#[tactic(auto, using(crate::proofs::Adding::sums_small))]
 fn sums_fields(rows: &PageRows) -> [Field; 5]
     ensures { result ≡ line_fields (sums_of rows.now) }
 {
+    let sums = add_up(rows.as_slice());
     [
         Field::in_columns::<PROJECT_COLUMNS>(0),
-        sum_field(rows, |row| row.annual_expense_charge),
-        sum_field(rows, |row| row.annual_return_charge),
-        sum_field(rows, |row| row.depreciation_expense),
-        sum_field(rows, |row| row.annual_revenue_requirement),
+        Field::in_columns::<AMOUNT_COLUMNS>(sums.annual_expense_charge),
+        Field::in_columns::<AMOUNT_COLUMNS>(sums.annual_return_charge),
+        Field::in_columns::<AMOUNT_COLUMNS>(sums.depreciation_expense),
+        Field::in_columns::<AMOUNT_COLUMNS>(sums.annual_revenue_requirement),
     ]
 }
 

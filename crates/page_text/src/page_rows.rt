@@ -3,8 +3,9 @@ ghost use Rattle.page_text.specs.Outcomes.{Gives};
 ghost use Rattle.page_text.specs.Rows.{PageLine, pushed, row_of};
 ghost use Rattle.rows.specs.Rows.{rows_in};
 
+use crate::refusal::Refusal;
 use crate::row::PageRow;
-use rows::{Full, Rows};
+use rows::Rows;
 use std::marker::Model;
 
 /// What stands in a place that is not in use.
@@ -40,12 +41,12 @@ impl PageRows {
         }
     }
 
-    /// Adds a row after the others; where they are 64, they stay as they are.
-    pub fn push(&mut self, row: PageRow) -> Result<(), Full>
+    /// Adds a row after the others; where they are 64, they stay as they are and 32 refuses it.
+    pub fn push(&mut self, row: PageRow) -> Result<(), Refusal>
         ensures outcome { Gives (pushed self.old (row_of row)) result self.new }
         ensures at_most_64_rows { length self.new ≤ 64 }
     {
-        self.rows.push(row)
+        self.rows.push(row).map_err(|_| Refusal::TooManyProjects)
     }
 
     /// The rows in use.

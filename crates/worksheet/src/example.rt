@@ -1,6 +1,5 @@
-use crate::layout::Printed;
-use crate::pages::print_pages;
 use crate::task::{enter_all, finish, price_all};
+use printed_pages::{Printed, print_pages};
 use sheets::{AttachmentCc, AttachmentMm, OpenSheet, Project};
 use std::io;
 

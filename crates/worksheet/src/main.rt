@@ -1,13 +1,11 @@
+//! Page 1 and page 2 of a filing, or of a built-in task, on standard output.
 #![tactic(auto)]
 
 mod example;
-mod filed;
-mod layout;
-mod pages;
 mod task;
-mod text;
 
 use anyhow::{Context, Result};
+use printed_pages::show_filing;
 use std::{env, io};
 
 fn show_usage(rt: &impl Print) -> io::Result<()> {
@@ -19,7 +17,7 @@ fn show_usage(rt: &impl Print) -> io::Result<()> {
 
 fn main(rt: HostRuntime) -> Result<()> {
     match env::args(&rt)?.nth(1) {
-        None => filed::show_filing(&rt, rt.stdin()),
+        None => Ok(show_filing(&rt, rt.stdin())?),
         Some(word) if word.as_str() == "--example" => {
             example::show_example(&rt).context("the pages cannot be written")
         }

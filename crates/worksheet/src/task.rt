@@ -1,6 +1,5 @@
-use crate::layout::{EXPENSE_LINES, Printed, RETURN_LINES, Shows};
-use crate::pages::Row;
-use crate::text::{Percent, Thousands};
+use printed_numbers::{Percent, Thousands};
+use printed_pages::Row;
 use sheets::{OpenSheet, Project, Template, WorkedSheet};
 use std::alloc::{AllocError, Global};
 use std::io;
@@ -22,29 +21,22 @@ pub fn enter_all<T: Template>(
 }
 
 /// The labels of the lines that have no amount yet.
-fn missing<T: Printed>(
+fn missing<T: Template>(
     heap: Global,
     sheet: &OpenSheet<T>,
 ) -> Result<Vec<&'static str>, AllocError> {
-    let first_lines = T::layout().first_lines;
     let mut missing = Vec::new(heap);
-    for line in first_lines
-        .iter()
-        .chain(&EXPENSE_LINES)
-        .chain(&RETURN_LINES)
-    {
-        // A loop: in a closure it is not proved that the sheet may be asked.
-        if let Shows::Entered(figure) = line.shows {
-            if sheet.figure(figure).is_none() {
-                missing.push(line.label)?;
-            }
+    // A loop: in a closure it is not proved that the sheet may be asked.
+    for &line in T::lines() {
+        if sheet.figure(T::figure(line)).is_none() {
+            missing.push(str::from_utf8(T::label(line)).unwrap_or(""))?;
         }
     }
     Ok(missing)
 }
 
 /// Finishes page 1 and says what became of it; a refused sheet comes back open.
-pub fn finish<T: Printed>(
+pub fn finish<T: Template>(
     rt: &(impl Print + AllocGlobal),
     sheet: OpenSheet<T>,
 ) -> io::Result<Result<WorkedSheet<T>, OpenSheet<T>>> {

@@ -14,9 +14,6 @@ use crate::reader::{FilingReader, Record};
 use crate::refusal::{LineRefusal, Refusal};
 use sheets::Template;
 
-/// The bytes of the longest filing.
-pub const LONGEST: usize = 65_536;
-
 /// Reads a filing of this template, whose first line is the T line.
 // The line and the reader, also in `read_named`: the line is asked about, and only the reader goes on.
 // `unread reader`, also in `read_named`: an argument of the one result; a model would give the lines and the number
@@ -50,10 +47,7 @@ pub fn read_pages(file: &[u8]) -> Result<Filing, LineRefusal>
     ensures outcome { seen view result ≡ filed file.now }
     ensures records_and_bytes_determine_each_other { OnOk result (RecordsAndBytesDetermineEachOther file.now) }
 {
-    if file.len() > LONGEST {
-        return Err(Refusal::FileTooLong.at_line(1));
-    }
-    let mut reader = FilingReader::new(file);
+    let mut reader = FilingReader::new(file)?;
     let line = reader
         .next_record()?
         .ok_or(Refusal::LetterOutOfPlace.at_line(1))?;
@@ -69,7 +63,8 @@ impl Filing {
         ensures { rows_of result ≡ (view self.now).1.rows }
     {
         match self {
-            Filing::Mm(Pages { projects, .. }) | Filing::Cc(Pages { projects, .. }) => *projects,
+            Filing::Mm(pages) => *pages.projects(),
+            Filing::Cc(pages) => *pages.projects(),
         }
     }
 }

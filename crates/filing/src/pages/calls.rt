@@ -2,32 +2,12 @@ ghost use Rattle.std.specs.Prelude.{◌≡◌, ◌+◌};
 ghost use Rattle.sheets.specs.Figures.{blank};
 ghost use Rattle.filing.specs.Filed.{entering, from, pricing};
 ghost use Rattle.filing.specs.Lines.{unread};
-ghost use Rattle.filing.specs.Reading.{ReadsFigures};
 
 use crate::pages::Pages;
-use crate::reader::{FilingReader, Record};
+use crate::reader::FilingReader;
 use crate::refusal::{LineRefusal, Refusal};
 use crate::sheet_lines::enter_figure;
 use sheets::{OpenSheet, Template};
-
-/// Enters the figures of the F lines, and answers the first P line.
-fn read_figures<'a, T: Template>(
-    reader: &mut FilingReader<'a>,
-    sheet: &mut OpenSheet<T>,
-) -> Result<Record<'a>, LineRefusal>
-    ensures { ReadsFigures T.rules reader.old sheet.old result reader.new sheet.new }
-{
-    'lines: while let Some(line) = reader.next_record()? {
-        match line.letter {
-            'F' => {
-                line.answer(enter_figure(sheet, line.bytes))?;
-            }
-            'P' => return Ok(line),
-            _ => return Err(line.refused(Refusal::LetterOutOfPlace)),
-        }
-    }
-    Err(Refusal::NoProject.at_line(reader.line()))
-}
 
 /// Prices the projects of the other P lines.
 // `unread reader`, also in `read_lines`: an argument of the one result; a model would give the lines and the number
@@ -44,12 +24,22 @@ fn price_rest<T: Template>(
     Ok(pages)
 }
 
-/// Reads the lines after the T line.
+/// Reads the lines after the T line: the figures of the F lines are entered, and the first P line finishes page 1.
 pub(crate) fn read_lines<T: Template>(mut reader: FilingReader) -> Result<Pages<T>, LineRefusal>
     ensures { result ≡ from T.rules (reader.entry.lines + 1) (entering blank) (unread reader.entry) }
 {
     let mut sheet = OpenSheet::new();
-    let line = read_figures(&mut reader, &mut sheet)?;
-    let pages = line.answer(Pages::open(sheet, line.bytes))?;
-    price_rest(reader, pages)
+    'lines: while let Some(line) = reader.next_record()? {
+        match line.letter {
+            'F' => {
+                line.answer(enter_figure(&mut sheet, line.bytes))?;
+            }
+            'P' => {
+                let pages = line.answer(Pages::open(sheet, line.bytes))?;
+                return price_rest(reader, pages);
+            }
+            _ => return Err(line.refused(Refusal::LetterOutOfPlace)),
+        }
+    }
+    Err(Refusal::NoProject.at_line(reader.line()))
 }
