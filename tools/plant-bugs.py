@@ -1,6 +1,6 @@
-"""Plants bugs in the library crates, one at a time, and checks that the prover refuses each.
+"""Plants bugs in the crates, one at a time, and checks that the prover refuses each.
 
-    python3 tools/plant-bugs.py [CRATE ...]
+    python3 tools/plant-bugs.py [--fit] [CRATE ...]
 
 The bugs of a crate stand in tools/planted/CRATE.txt, one after another, with an empty line between two:
 
@@ -11,11 +11,16 @@ The bugs of a crate stand in tools/planted/CRATE.txt, one after another, with an
     old: if rest >= d - rest {
     new: if rest > d - rest {
 
-`file:`, `old:` and `new:` may be given again for a bug of several lines. A bug that the gate plants too, at
-every run, has `must-fail: NAME` in their place, the edit of that name in the crate's own must-fail/.
+`file:`, `old:` and `new:` may be given again for a bug of several lines. A bug of the kind `joint` is planted in
+code and in the definition that it mirrors (specs/), so that only a law above both can refuse it. A bug that
+the gate plants too, at every run, has `must-fail: NAME` in their place, the edit of that name in the crate's
+own must-fail/.
 
-The crates are copied, the bugs are put beside the copy's own edits, and `rt must-fail` plants them. On
-standard output stands a row of docs/PLANTED.md for each bug. The status is 0 where every bug was refused.
+Each bug has to fit: its old text stands once in its file. And each must-fail edit of the crate has to be named. With
+--fit no more than that is asked, in a moment, and the bugs of each crate are counted. Else the crates are copied, the
+bugs are put beside the copy's own edits, and `rt must-fail` plants them. On standard output stands a row for each bug:
+crate, function, bug, kind, and where the check stopped first. On standard error stands for each crate its row of
+docs/PLANTED.md. The status is 0 where every bug fits, and was refused.
 """
 
 import pathlib
@@ -53,6 +58,42 @@ def bugs_of(crate):
     return bugs
 
 
+def misfit(crate, lines):
+    """What of an edit's lines does not fit the code, or None."""
+    texts, file, old = {}, None, None
+    for line in lines:
+        kind, _, text = line.partition(":")
+        text = text[1:]
+        if kind == "file":
+            file = text
+            source = TOP / "crates" / crate / file
+            if file not in texts:
+                texts[file] = source.read_text() if source.exists() else ""
+        elif kind == "old":
+            old = text
+        elif texts[file].count(old) != 1:
+            return f"this stands {texts[file].count(old)} times in {file}: {old}"
+        else:
+            texts[file] = texts[file].replace(old, text)
+    return None
+
+
+def misfits(crate, bugs):
+    """Each bug of a crate that does not fit its code, and each must-fail edit that no bug names."""
+    found = []
+    at_gate = {edit.stem: edit for edit in (TOP / "crates" / crate / "must-fail").glob("*.edit")}
+    for bug in bugs:
+        edit = at_gate.pop(bug["name"], None)
+        if not bug["edit"] and not edit:
+            found.append(f"{crate}: there is no edit {bug['name']}")
+        elif bug["edit"] and edit:
+            found.append(f"{crate}: {bug['name']} is planted by the gate: name it with must-fail:")
+        else:
+            why = misfit(crate, bug["edit"] or edit.read_text().splitlines())
+            found += [f"{crate}: {bug['name']}: {why}"] if why else []
+    return found + [f"{crate}: no bug names the edit {name}" for name in sorted(at_gate)]
+
+
 def copied_with(bugs_by_crate, folder):
     """A copy of the crates whose must-fail edits are the bugs and no others."""
     left_out = shutil.ignore_patterns("out", "target")
@@ -68,11 +109,7 @@ def copied_with(bugs_by_crate, folder):
         for bug in bugs:
             edit = edits / f"{bug['name']}.edit"
             if bug["edit"]:
-                if edit.exists():
-                    sys.exit(f"{crate}: {bug['name']} is planted by the gate: name it with must-fail:")
                 edit.write_text("\n".join(bug["edit"]) + "\n")
-            elif not edit.exists():
-                sys.exit(f"{crate}: there is no edit {bug['name']}")
 
 
 def place(verdict):
@@ -95,24 +132,35 @@ def verdicts(folder, crates):
 
 
 def main():
-    crates = sys.argv[1:] or sorted(file.stem for file in PLANTED.glob("*.txt"))
+    words = sys.argv[1:]
+    crates = [word for word in words if word != "--fit"] or sorted(file.stem for file in PLANTED.glob("*.txt"))
     bugs_by_crate = {crate: bugs_of(crate) for crate in crates}
+    unfit = [line for crate, bugs in bugs_by_crate.items() for line in misfits(crate, bugs)]
+    if unfit:
+        sys.exit("\n".join(unfit))
+    if "--fit" in words:
+        for crate, bugs in bugs_by_crate.items():
+            print(f"{crate}: {len(bugs)} bugs, {sum('must-fail' in bug for bug in bugs)} of them at the gate")
+        return
     with tempfile.TemporaryDirectory() as folder:
         copied_with(bugs_by_crate, pathlib.Path(folder))
         said = verdicts(folder, crates)
     not_refused = 0
     for crate, bugs in bugs_by_crate.items():
+        stopped = []
         for bug in bugs:
             verdict = said.get((crate, bug["name"]), "not tried")
             refused = verdict.startswith("refused") and NAMES_ARE_GONE not in verdict
             not_refused += not refused
             outcome = place(verdict) if refused else verdict[:60].upper()
+            stopped.append(outcome.partition("/")[0])
             gate = " (gate)" if "must-fail" in bug else ""
             print(f"| {crate} | `{bug['in']}` | {bug['bug']}{gate} | {bug['kind']} | {outcome} |")
-    for crate, bugs in bugs_by_crate.items():
-        print(f"{crate}: {len(bugs)} bugs", file=sys.stderr)
+        counts = [len(bugs), sum("must-fail" in bug for bug in bugs), stopped.count("src"), stopped.count("proofs")]
+        print(" | ".join(["", crate, *map(str, counts), ""]).strip(), file=sys.stderr)
     print(f"{sum(map(len, bugs_by_crate.values()))} bugs, {not_refused} not refused", file=sys.stderr)
     sys.exit(1 if not_refused else 0)
 
 
-main()
+if __name__ == "__main__":
+    main()
